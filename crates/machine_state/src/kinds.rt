@@ -1,0 +1,82 @@
+//! The plain types that several crates share.
+
+/// What an access does with the bytes that it touches.
+#[derive(Clone, Copy, Debug, PartialEq, Eq)]
+pub enum Kind {
+    Read,
+    Write,
+    Execute,
+}
+
+/// Why the byte at an address can't be had.
+#[derive(Clone, Copy, Debug, PartialEq, Eq)]
+pub enum Miss {
+    /// No page is mapped at this address.
+    Unmapped(u64),
+    /// The page at this address lacks the permission.
+    Denied(u64),
+    /// The address isn't canonical (SDM volume 1, 3.3.7.1).
+    NonCanonical(u64),
+    /// The access is allowed, but the page in this slot isn't in a frame now.
+    Away(u32),
+}
+
+/// A fault of an instruction, before it becomes a signal (SDM volume 3, 6.15).
+#[derive(Clone, Copy, Debug, PartialEq, Eq)]
+pub enum Fault {
+    /// #DE
+    Divide,
+    /// #BP, of INT3
+    Breakpoint,
+    /// #UD
+    Undefined,
+    /// #GP
+    General,
+    /// #PF at the byte `addr`; `mapped` says whether a page is mapped there.
+    Page {
+        addr: u64,
+        write: bool,
+        fetch: bool,
+        mapped: bool,
+    },
+}
+
+/// The seven flags of RFLAGS that change (SDM volume 1, 3.4.3).
+#[derive(Clone, Copy, Debug, PartialEq, Eq)]
+pub struct Flags {
+    pub cf: bool,
+    pub pf: bool,
+    pub af: bool,
+    pub zf: bool,
+    pub sf: bool,
+    pub df: bool,
+    /// OF
+    pub ovf: bool,
+}
+
+/// A call on the outside, as an end names it when that call failed. The number in `Load` and `Store` is the index of
+/// the command line's word that holds the path.
+#[derive(Clone, Copy, Debug, PartialEq, Eq)]
+pub enum HostCall {
+    Load(u32),
+    Store(u32),
+    SwapOpen,
+    SwapGet,
+    SwapPut,
+    Take,
+    PutOut,
+    PutErr,
+}
+
+/// How a run ended.
+#[derive(Clone, Copy, Debug, PartialEq, Eq)]
+pub enum RunEnd {
+    /// The guest exited with this status.
+    Exit(u8),
+    /// The guest was killed by this signal.
+    Killed(u8),
+    /// The guest was still running when its budget of steps was used.
+    Budget,
+    /// A call on the outside failed.
+    Host(HostCall),
+}

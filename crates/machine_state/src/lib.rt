@@ -1,0 +1,9 @@
+//! What the written machine is made of: guest memory, the machine state and the world, as definitions in `specs/`,
+//! and the plain types that the crates above share.
+#![tactic(auto)]
+
+mod kinds;
+mod permissions;
+
+pub use kinds::{Fault, Flags, HostCall, Kind, Miss, RunEnd};
+pub use permissions::Perms;
