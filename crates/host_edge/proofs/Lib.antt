@@ -1,0 +1,4 @@
+pub mod StreamLemmas
+pub mod LayoutLemmas
+pub mod ByteLemmas
+pub mod HostLemmas

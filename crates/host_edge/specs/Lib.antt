@@ -1,0 +1,10 @@
+pub mod Causes
+pub mod Streams
+pub mod Files
+pub mod MemSource
+pub mod MemSink
+pub mod NamedFiles
+pub mod Layout
+pub mod MemFiles
+pub mod Faults
+pub mod MemHost

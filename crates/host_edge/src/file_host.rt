@@ -1,0 +1,146 @@
+// A host over the files of a runtime.
+ghost use Rattle.std.specs.Prelude.{◌≡◌, ◌+◌, ◌≤◌, IfOk, drop, length};
+ghost use Rattle.host_edge.specs.Causes.{no_faults};
+ghost use Rattle.host_edge.specs.Faults.{IsCounted};
+
+use crate::counts::{Faults, fault};
+use crate::transfers::{read_front, write_whole};
+use crate::{Failed, Host, PAGE};
+use std::fs::{File, OpenFile, OpenOptions};
+use std::io::{self, Read, Seek, SeekFrom, Write};
+use std::rt::Files;
+
+/// A host over the files of a runtime, whose swap is a file with one page behind the other. It tells no bytes, and each
+/// error of std is a failure.
+#[derive(Drop)]
+pub struct FileHost<R: Files> {
+    rt: R,
+    swap: Option<R::File>,
+    opened: u32,
+    faults: Faults,
+    ghost counted: { IsCounted faults },
+}
+
+impl<R: Files> FileHost<R> {
+    /// A host with no open swap, of which no call has failed.
+    pub fn new(rt: R) -> FileHost<R>
+        ensures opened { ⟦<FileHost<R> as Host>⟧.opened result ≡ 0 }
+        ensures faults { ⟦<FileHost<R> as Host>⟧.faults result ≡ no_faults }
+    {
+        FileHost {
+            rt,
+            swap: None,
+            opened: 0,
+            faults: Faults::default(),
+        }
+    }
+}
+
+// Reads a file to the front of a buffer, whose rest stays, and answers its length, or one more than the buffer's.
+fn load_file<R: Files>(rt: &R, path: &str, into: &mut [u8]) -> io::Result<u64>
+    ensures fits { IfOk result (λ len. len ≤ length into.old + 1) }
+    ensures rest { IfOk result (λ len. drop len into.new ≡ drop len into.old) }
+{
+    let mut file = File::open(rt, path)?;
+    let count = read_front(&mut file, into)?;
+    if count < into.len() {
+        return Ok(count as u64);
+    }
+    let mut more = [0];
+    let behind = file.read(&mut more)?;
+    Ok(count as u64 + behind as u64)
+}
+
+fn store_file<R: Files>(rt: &R, path: &str, bytes: &[u8]) -> io::Result<()> {
+    let mut file = File::create(rt, path)?;
+    write_whole(&mut file, bytes)
+}
+
+// Makes an empty file of so many pages.
+fn open_swap<R: Files>(rt: &R, path: &str, pages: u32) -> io::Result<R::File> {
+    let file = OpenOptions::new()
+        .read(true)
+        .write(true)
+        .create(true)
+        .truncate(true)
+        .open(rt, path)?;
+    file.set_len(u64::from(pages) * PAGE as u64)?;
+    Ok(file)
+}
+
+fn seek_page<F: Seek>(file: &mut F, page: u32) -> io::Result<u64> {
+    file.seek(SeekFrom::Start(u64::from(page) * PAGE as u64))
+}
+
+fn read_page<F: Read + Seek>(file: &mut F, page: u32, into: &mut [u8]) -> io::Result<()> {
+    seek_page(file, page)?;
+    let count = read_front(file, into)?;
+    if count < into.len() {
+        return Err(io::ErrorKind::UnexpectedEof.into());
+    }
+    Ok(())
+}
+
+fn write_page<F: Write + Seek>(file: &mut F, page: u32, from: &[u8]) -> io::Result<()> {
+    seek_page(file, page)?;
+    write_whole(file, from)
+}
+
+impl<R: Files> Host for FileHost<R> {
+    ghost use Rattle.std.specs.Prelude.{None};
+    ghost use Rattle.host_edge.specs.Faults.{counts_of};
+
+    ghost holds = { λ _. None };
+
+    ghost opened = { λ h. h.opened };
+
+    ghost faults = { λ h. counts_of h.faults };
+
+    fn load(&mut self, path: &str, into: &mut [u8]) -> Result<u64, Failed> {
+        match load_file(&self.rt, path, into) {
+            Ok(len) => Ok(len),
+            Err(_) => Err(fault(&mut self.faults.load)),
+        }
+    }
+
+    fn store(&mut self, path: &str, bytes: &[u8]) -> Result<(), Failed> {
+        match store_file(&self.rt, path, bytes) {
+            Ok(()) => Ok(()),
+            Err(_) => Err(fault(&mut self.faults.store)),
+        }
+    }
+
+    /// Makes the file anew, in place of what was there. Where that fails, no swap is open.
+    fn swap_open(&mut self, path: &str, pages: u32) -> Result<(), Failed> {
+        self.swap = None;
+        self.opened = 0;
+        match open_swap(&self.rt, path, pages) {
+            Ok(file) => {
+                self.swap = Some(file);
+                self.opened = pages;
+                Ok(())
+            }
+            Err(_) => Err(fault(&mut self.faults.swap_open)),
+        }
+    }
+
+    fn swap_get(&mut self, page: u32, into: &mut [u8]) -> Result<(), Failed> {
+        let Some(file) = &mut self.swap else {
+            return Err(fault(&mut self.faults.swap_get));
+        };
+        match read_page(file, page, into) {
+            Ok(()) => Ok(()),
+            Err(_) => Err(fault(&mut self.faults.swap_get)),
+        }
+    }
+
+    fn swap_put(&mut self, page: u32, from: &[u8]) -> Result<(), Failed> {
+        let Some(file) = &mut self.swap else {
+            return Err(fault(&mut self.faults.swap_put));
+        };
+        match write_page(file, page, from) {
+            Ok(()) => Ok(()),
+            Err(_) => Err(fault(&mut self.faults.swap_put)),
+        }
+    }
+}

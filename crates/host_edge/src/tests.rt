@@ -1,0 +1,211 @@
+// What the contracts leave open: that calls succeed, and what files of the system give back.
+ghost use Rattle.std.specs.Prelude.{◌≡◌, IfOk, vec_len};
+ghost use Rattle.host_edge.specs.NamedFiles.{named};
+
+use crate::bytes::zeros;
+use crate::{
+    Failed, FileHost, FileSink, FileSource, Host, MemHost, MemSink, MemSource, PAGE, Sink, Source,
+};
+use std::alloc::{AllocError, Global};
+use std::fs::{self, File};
+use std::io::Write;
+use std::test::Fail;
+use std::{env, io, process};
+
+#[test]
+fn a_source_gives_its_bytes_but_where_a_call_is_listed(rt: HostRuntime) -> Result<(), Fail> {
+    let mut source = MemSource::new(rt.alloc(), b"abcdef", 4, &[2])?;
+    for (room, want, given) in [
+        (3, Ok(3), b"abc."),
+        (3, Err(Failed), b"...."),
+        (4, Ok(3), b"def."),
+        (4, Ok(0), b"...."),
+    ] {
+        let mut into = *b"....";
+        assert_eq!(rt; source.take(&mut into[..room]), want);
+        assert_eq!(rt; &into, given);
+    }
+    Ok(())
+}
+
+#[test]
+fn a_sink_keeps_what_is_put_and_a_part_where_a_call_is_listed(rt: HostRuntime) -> Result<(), Fail> {
+    let mut sink = MemSink::new(rt.alloc(), 8, &[(2, 1), (2, 5), (3, 1), (4, 9)])?;
+    for (bytes, want, held) in [
+        ("abc", Ok(()), "abc"),
+        ("de", Err(Failed), "abcd"),
+        ("efghi", Err(Failed), "abcd"),
+        ("ef", Err(Failed), "abcdef"),
+        ("ghi", Err(Failed), "abcdef"),
+        ("gh", Ok(()), "abcdefgh"),
+    ] {
+        assert_eq!(rt; sink.put(bytes.as_bytes()), want, "at {bytes}");
+        assert_eq!(rt; sink.bytes(), held.as_bytes(), "after {bytes}");
+    }
+    Ok(())
+}
+
+// A file of a host, as it is made with.
+fn file(alloc: Global, path: &str, bytes: &[u8]) -> Result<(String, Vec<u8>), AllocError>
+    ensures { IfOk result (λ file. named file ≡ record { path = path.now; bytes = bytes.now }) }
+{
+    Ok((
+        String::from_str(alloc, path)?,
+        Vec::from_slice(alloc, bytes)?,
+    ))
+}
+
+// A page of one byte all over.
+fn page_of(alloc: Global, byte: u8) -> Result<Vec<u8>, AllocError>
+    ensures { IfOk result (λ page. vec_len page ≡ PAGE) }
+{
+    let mut page = zeros(alloc, PAGE)?;
+    for place in page.iter_mut() {
+        *place = byte;
+    }
+    Ok(page)
+}
+
+#[test]
+fn each_call_of_a_host_fails_by_its_number(rt: HostRuntime) -> Result<(), Fail> {
+    let alloc = rt.alloc();
+    let files = vec![in alloc; file(alloc, "a", b"xyz")?]?;
+    let mut host = MemHost::new(alloc, files, 20, 2, &[1, 3, 6, 8, 10])?;
+    let mut into = *b"....";
+    assert_eq!(rt; host.load("a", &mut into), Err(Failed));
+    assert_eq!(rt; host.load("a", &mut into), Ok(3));
+    assert_eq!(rt; &into, b"xyz.");
+    assert_eq!(rt; host.store("b", b"new"), Err(Failed));
+    assert_eq!(rt; host.load("b", &mut into), Err(Failed), "no such file");
+    assert_eq!(rt; host.store("b", b"new"), Ok(()));
+    assert_eq!(rt; host.swap_open("s", 2), Err(Failed));
+    host.swap_open("s", 2)?;
+    let page = page_of(alloc, 7)?;
+    let mut back = page_of(alloc, 0)?;
+    assert_eq!(rt; host.swap_put(1, &page), Err(Failed));
+    assert_eq!(rt; host.swap_put(1, &page), Ok(()));
+    assert_eq!(rt; host.swap_get(1, &mut back), Err(Failed));
+    assert_eq!(rt; host.swap_get(1, &mut back), Ok(()));
+    assert_eq!(rt; back.as_slice(), page.as_slice());
+    assert_eq!(rt;
+        host.swap_open("s", 3),
+        Err(Failed),
+        "more pages than there are"
+    );
+    Ok(())
+}
+
+#[test]
+fn a_store_that_passes_the_room_changes_nothing(rt: HostRuntime) -> Result<(), Fail> {
+    let alloc = rt.alloc();
+    let files = vec![in alloc; file(alloc, "a", b"xyz")?, file(alloc, "b", b"")?]?;
+    let mut host = MemHost::new(alloc, files, 8, 1, &[])?;
+    let mut into = *b"....";
+    assert_eq!(rt; host.store("b", b"1234"), Err(Failed));
+    assert_eq!(rt; host.load("a", &mut into), Ok(3));
+    assert_eq!(rt; &into, b"xyz.");
+    assert_eq!(rt; host.load("b", &mut into), Ok(0));
+    assert_eq!(rt;
+        host.store("a", b"123456"),
+        Ok(()),
+        "in place of its own bytes"
+    );
+    assert_eq!(rt; host.load("a", &mut into), Ok(5), "longer than the buffer");
+    assert_eq!(rt; &into, b"1234");
+    Ok(())
+}
+
+#[test]
+fn a_sixty_fifth_file_is_refused(rt: HostRuntime) -> Result<(), Fail> {
+    let alloc = rt.alloc();
+    let mut host = MemHost::new(alloc, Vec::new(alloc), 1000, 1, &[])?;
+    for number in 0..64u8 {
+        let path = format!(in alloc; "{number}")?;
+        assert_eq!(rt; host.store(&path, &[number]), Ok(()));
+    }
+    assert_eq!(rt; host.store("64", b""), Err(Failed));
+    assert_eq!(rt; host.store("17", b"new"), Ok(()));
+    let mut into = *b"....";
+    assert_eq!(rt; host.load("17", &mut into), Ok(3));
+    assert_eq!(rt; &into, b"new.");
+    assert_eq!(rt; host.load("16", &mut into), Ok(1));
+    assert_eq!(rt; into[0], 16);
+    Ok(())
+}
+
+#[test]
+fn a_host_over_files_gives_back_what_it_was_given(rt: HostRuntime) -> Result<(), Fail> {
+    let folder = env::temp_dir(&rt)?;
+    let id = process::id(rt.process());
+    let path = format!(in rt.alloc(); "{}/host_edge_{id}", folder.as_str())?;
+    let swap = format!(in rt.alloc(); "{path}_swap")?;
+    let mut host = FileHost::new(&rt);
+    let mut into = *b"......";
+    assert_eq!(rt; host.load(&path, &mut into), Err(Failed), "no such file");
+    assert_eq!(rt; host.store(&path, b"hello\n"), Ok(()));
+    assert_eq!(rt;
+        host.load(&path, &mut into[..5]),
+        Ok(6),
+        "longer than the buffer"
+    );
+    assert_eq!(rt; &into, b"hello.");
+    assert_eq!(rt; host.store(&path, b"abc"), Ok(()));
+    assert_eq!(rt; host.load(&path, &mut into), Ok(3));
+    assert_eq!(rt; &into, b"abclo.");
+    let (first, last) = (page_of(rt.alloc(), 1)?, page_of(rt.alloc(), 3)?);
+    let mut back = page_of(rt.alloc(), 0)?;
+    host.swap_open(&swap, 3)?;
+    host.swap_put(2, &last)?;
+    host.swap_put(0, &first)?;
+    host.swap_get(2, &mut back)?;
+    assert_eq!(rt; back.as_slice(), last.as_slice());
+    host.swap_get(0, &mut back)?;
+    assert_eq!(rt; back.as_slice(), first.as_slice());
+    fs::remove_file(&rt, &path)?;
+    fs::remove_file(&rt, &swap)?;
+    Ok(())
+}
+
+// A writer that takes two bytes at once, up to its room.
+#[derive(Drop)]
+struct Narrow {
+    room: usize,
+}
+
+impl Write for Narrow {
+    fn write(&mut self, bytes: &[u8]) -> io::Result<usize> {
+        let count = bytes.len().min(2).min(self.room);
+        self.room -= count;
+        Ok(count)
+    }
+
+    fn flush(&mut self) -> io::Result<()> {
+        Ok(())
+    }
+}
+
+#[test]
+fn streams_over_files_move_bytes_in_parts(rt: HostRuntime) -> Result<(), Fail> {
+    let folder = env::temp_dir(&rt)?;
+    let id = process::id(rt.process());
+    let path = format!(in rt.alloc(); "{}/host_edge_stream_{id}", folder.as_str())?;
+    let mut sink = FileSink::new(File::create(&rt, path.as_str())?);
+    assert_eq!(rt; sink.put(b"abc"), Ok(()));
+    assert_eq!(rt; sink.put(b"de"), Ok(()));
+    let mut source = FileSource::new(File::open(&rt, path.as_str())?);
+    let mut into = *b"....";
+    assert_eq!(rt; source.take(&mut into), Ok(4));
+    assert_eq!(rt; &into, b"abcd");
+    assert_eq!(rt; source.take(&mut into), Ok(1));
+    assert_eq!(rt; &into, b"ebcd");
+    assert_eq!(rt; source.take(&mut into), Ok(0));
+    fs::remove_file(&rt, path.as_str())?;
+    let mut narrow = FileSink::new(Narrow { room: 5 });
+    assert_eq!(rt; narrow.put(b"abc"), Ok(()));
+    assert_eq!(rt;
+        narrow.put(b"def"),
+        Err(Failed),
+        "a write that takes nothing"
+    );
+    Ok(())
+}
