@@ -1,0 +1,10 @@
+pub mod Seats
+pub mod Tables
+pub mod Walks
+pub mod Takes
+pub mod Puts
+pub mod Writes
+pub mod Shows
+pub mod Counts
+pub mod Maps
+pub mod Protects

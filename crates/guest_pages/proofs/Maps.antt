@@ -1,0 +1,164 @@
+-- Lemmas on a page that is mapped.
+use Rattle.std.proofs.Common.{◌≡◌, ℕ, ◌+◌, ◌/◌, ◌%◌, ◌<◌, ◌≤◌, List, [], ◌∷◌, ◌++◌, ◌^◌, Bool, true, false, cond, Option, Some, None, length, get_or, set, ◌==◌, refl, sym, ap, ◌∙◌, ⊎_elim, arith, ◌≢◌, is_some, count_by, nat_lt, ◌||◌, MatchOption}
+use Rattle.std.proofs.lemmas.List.{get_or_past, get_or_push, get_or_append_left, length-append}
+use Rattle.std.proofs.lemmas.Bool.{cases_eq, cases_lt, eq-eqb, false≢true, lt-ltb}
+use Rattle.guest_pages.specs.declared.entry.Entry.{Entry}
+use Rattle.guest_pages.specs.declared.entry.Place.{Place}
+use Rattle.guest_pages.specs.declared.entry.Place.TheVariants.{Resident, Zeros, Swapped}
+use Rattle.guest_pages.specs.Entry.{is_resident, is_in_frame, place_byte, IsZeros}
+use Rattle.guest_pages.specs.Table.{Mapped, Table, away_at, with_entry}
+use Rattle.guest_pages.specs.Pages.{PagesValue, table_of, byte_of, mapped_count}
+use Rattle.guest_pages.specs.Changes.{AllResident, IsBlank, IsMapped}
+use Rattle.guest_pages.specs.Slots.{LacksPage, IsSeatOf, AreSound, AreShared, CanTake}
+use Rattle.guest_pages.proofs.Counts.{count_by_none, count_by_below}
+use Rattle.guest_pages.proofs.Seats.{seek_none, take_free}
+use Rattle.guest_pages.proofs.Tables.{table_at, table_none}
+use Rattle.guest_pages.proofs.Takes.{taken, entry_mapped, size_taken, table_taken, byte_taken, count_taken, frames_taken}
+
+-- a slot that can take the page and holds one holds that page
+pub taken_seat : (slots : List (Option Entry)) (page k : ℕ) (entry : Entry) → CanTake slots page k → get_or slots k None ≡ Some entry → IsSeatOf slots page k
+taken_seat slots page k entry can is =
+    let same : page ≡ entry.page = can.here entry.page (rw is (eq-eqb entry.page entry.page refl)) in
+    record {
+      within = can.within;
+      here = rw is (eq-eqb page entry.page same);
+      first = λ i h. can.others i (let other : i ≢ k = omega arith in other);
+    }
+
+-- where a slot that can take the page is free, no slot holds it
+pub free_lacks : (slots : List (Option Entry)) (page k : ℕ) → CanTake slots page k → get_or slots k None ≡ None → LacksPage slots page
+free_lacks slots page k can is = λ i h. ⊎_elim
+    (λ (same : i ≡ k). rw (same, is) refl)
+    (λ (other : i ≢ k). can.others i other)
+    (cases_eq i k)
+
+-- where a free slot was found there is one, and else all are used
+pub seat_or_full : (pages : PagesValue) (page : ℕ) (found : Option ℕ) → LacksPage pages.slots page
+    → MatchOption found (count_by is_some pages.slots ≡ length pages.slots) (λ k. (k < length pages.slots) × (get_or pages.slots k None ≡ None))
+    → MatchOption found ((table_of pages page ≡ None) × (mapped_count pages ≡ length pages.slots)) (CanTake pages.slots page)
+unfolding mapped_count
+seat_or_full pages page None lacks h = (table_none pages page lacks, h)
+seat_or_full pages page (Some k) lacks h = take_free pages.slots page k h.0 lacks h.1
+
+-- where a slot can take the page, the page is mapped or fewer are than there may be
+pub not_full : (pages : PagesValue) (page k : ℕ) → CanTake pages.slots page k → table_of pages page ≡ None → mapped_count pages ≡ length pages.slots → ⊥
+unfolding mapped_count
+not_full pages page k can none full = by_slot (get_or pages.slots k None) refl
+  where
+    by_slot : (slot : Option Entry) → get_or pages.slots k None ≡ slot → ⊥
+    by_slot None is = let below : count_by is_some pages.slots < length pages.slots = count_by_below is_some pages.slots k None can.within (rw is refl) in omega arith
+    by_slot (Some entry) is = let mapped = table_at pages page k entry (taken_seat pages.slots page k entry can is) is in cc
+
+zeros_byte : (place : Place) (swapped : List ℕ) (at : ℕ) → IsZeros place → place_byte swapped place at ≡ 0
+zeros_byte (Resident bytes mark) swapped at h = ⊎_elim
+    (λ (within : at < length bytes). h.0 at 0 within)
+    (λ (past : length bytes ≤ at). get_or_past bytes at 0 past)
+    (cases_lt at (length bytes))
+zeros_byte Zeros swapped at h = refl
+zeros_byte Swapped swapped at h = absurd h
+
+zero_case : (b : Bool) (x y : ℕ) → x ≡ 0 → cond b x y ≡ cond b 0 y
+zero_case true x y h = h
+zero_case false x y h = refl
+
+module _ (pages : PagesValue) (k : ℕ) (entry : Entry) (can : CanTake pages.slots entry.page k) (zeros : IsZeros entry.place) where
+  count_is : (slot : Option Entry) → get_or pages.slots k None ≡ slot → mapped_count (taken pages k entry) ≡ mapped_count pages + cond (is_some (table_of pages entry.page)) 0 1
+  count_is None is =
+      let counts : mapped_count (taken pages k entry) + 0 ≡ mapped_count pages + 1 = rw is at (count_taken pages k entry can.within) in
+      rw (table_none pages entry.page (free_lacks pages.slots entry.page k can is)) (omega arith)
+  count_is (Some before) is =
+      let counts : mapped_count (taken pages k entry) + 1 ≡ mapped_count pages + 1 = rw is at (count_taken pages k entry can.within) in
+      rw (table_at pages entry.page k before (taken_seat pages.slots entry.page k before can is) is) (omega arith)
+
+  stays : (slot : Option Entry) → get_or pages.slots k None ≡ slot → (mapped : Mapped) → table_of pages entry.page ≡ Some mapped → k ≡ mapped.slot
+  stays None is mapped h = let none = table_none pages entry.page (free_lacks pages.slots entry.page k can is) in cc
+  stays (Some before) is mapped h =
+      let some = table_at pages entry.page k before (taken_seat pages.slots entry.page k before can is) is in
+      let same : Some (entry_mapped k before) ≡ Some mapped = sym some ∙ h in
+      cc
+
+  -- the pages where a page of zeros is mapped
+  pub mapped_there : IsMapped pages (taken pages k entry) entry.page entry.perms.0
+  mapped_there = record {
+    size = size_taken pages k entry;
+    entry = entry_mapped k entry;
+    table = table_taken pages k entry can;
+    perms_are = refl;
+    slot_stays = stays (get_or pages.slots k None) refl;
+    byte = λ swap i at.
+        (byte_taken pages k entry can swap at ∙ zero_case (at / 4096 == entry.page) _ _ (zeros_byte entry.place (swap k) (at % 4096) zeros)) i;
+    count = count_is (get_or pages.slots k None) refl;
+  }
+
+-- the page that is mapped gets a frame where there are as many frames as pages
+framed_case : (slot resident : Bool) (free count frames most : ℕ) → resident ≡ (slot || nat_lt 0 free) → free + count ≡ frames → frames ≡ most
+    → (slot ≡ false → count < most) → resident ≡ true
+framed_case true resident free count frames most is shared same below = is
+framed_case false resident free count frames most is shared same below =
+    let some : 0 < free = (let fewer = below refl in omega arith) in
+    is ∙ lt-ltb 0 free some
+
+pub resident_mapped : (pages : PagesValue) (k free capacity : ℕ) (entry : Entry) → CanTake pages.slots entry.page k → AreShared pages.slots pages.frames free capacity
+    → is_resident entry.place ≡ (is_in_frame (get_or pages.slots k None) || nat_lt 0 free) → pages.frames ≡ length pages.slots → AllResident pages
+    → AllResident (taken pages k entry)
+resident_mapped pages k free capacity entry can shares is same all page =
+    let resident : is_resident entry.place ≡ true =
+    framed_case (is_in_frame (get_or pages.slots k None)) (is_resident entry.place) free (count_by is_in_frame pages.slots) pages.frames (length pages.slots) is shares.shared same
+    (λ out. count_by_below is_in_frame pages.slots k None can.within out) in
+    let table : table_of (taken pages k entry) page ≡ with_entry (table_of pages) entry.page (Some (entry_mapped k entry)) page = ap (λ (t : Table). t page) (table_taken pages k entry can) in
+    rw table (in_case (page == entry.page) k entry (table_of pages page) resident (all page))
+  where
+    in_case : (b : Bool) (k : ℕ) (entry : Entry) (other : Option Mapped) → is_resident entry.place ≡ true → away_at other ≡ None → away_at (cond b (Some (entry_mapped k entry)) other) ≡ None
+    in_case true k entry other resident h = rw resident refl
+    in_case false k entry other resident h = h
+
+-- the frames are shared as before where a slot's frame or a free one goes to its new page
+pub shared_taken : (slots : List (Option Entry)) (frames free free' capacity capacity' k : ℕ) (entry : Entry) (given : Bool) → k < length slots
+    → AreShared slots frames free capacity → is_resident entry.place ≡ given
+    → free' + cond given 1 0 ≡ free + cond (is_in_frame (get_or slots k None)) 1 0 → capacity' ≡ capacity
+    → AreShared (set slots k (Some entry)) frames free' capacity'
+shared_taken slots frames free free' capacity capacity' k entry given within shares is moved room =
+    let counts = frames_taken slots k entry within in
+    let given_is : free' + cond (is_resident entry.place) 1 0 ≡ free + cond (is_in_frame (get_or slots k None)) 1 0 = rw (← is) at moved in
+    record { shared = (let before = shares.shared in omega arith); room = rw room shares.room }
+
+blank_lacks : (slots : List (Option Entry)) → ((i : ℕ) → get_or slots i None ≡ None) → (page : ℕ) → LacksPage slots page
+blank_lacks slots blank page = λ i h. rw (blank i) refl
+
+-- slots of which none holds a page are sound
+pub blank_sound : (slots : List (Option Entry)) → ((i : ℕ) → get_or slots i None ≡ None) → length slots < 2 ^ 32 → AreSound slots
+blank_sound slots blank few = record {
+  apart = λ i j page l within held. blank_lacks slots blank page j within;
+  low = λ k page within held. absurd (false≢true (sym (blank_lacks slots blank page k within) ∙ held));
+  few = few;
+}
+
+pub blank_shared : (slots : List (Option Entry)) (frames free capacity : ℕ) → ((i : ℕ) → get_or slots i None ≡ None) → free ≡ frames → frames ≤ capacity
+    → AreShared slots frames free capacity
+blank_shared slots frames free capacity blank all room =
+    let none : count_by is_in_frame slots ≡ 0 = count_by_none is_in_frame slots None (λ i h. rw (blank i) refl) in
+    record { shared = omega arith; room = room }
+
+-- pages of which no slot holds one
+pub blank_there : (pages : PagesValue) (frames most : ℕ) → ((i : ℕ) → get_or pages.slots i None ≡ None) → pages.frames ≡ frames → length pages.slots ≡ most
+    → IsBlank pages frames most
+unfolding byte_of mapped_count
+blank_there pages frames most blank frames_are pages_are = record {
+  frames_are = frames_are;
+  pages_are = pages_are;
+  table = λ page. table_none pages page (blank_lacks pages.slots blank page);
+  byte = λ swap addr. rw (seek_none 0 pages.slots (addr / 4096) (blank_lacks pages.slots blank (addr / 4096))) refl;
+  count = count_by_none is_some pages.slots None (λ i h. rw (blank i) refl);
+}
+
+pub blank_resident : (pages : PagesValue) → ((i : ℕ) → get_or pages.slots i None ≡ None) → AllResident pages
+blank_resident pages blank page = rw (table_none pages page (blank_lacks pages.slots blank page)) refl
+
+pub blank_push : (slots : List (Option Entry)) (n : ℕ) → length slots ≡ n → ((i : ℕ) → get_or slots i None ≡ None) → (i : ℕ) → get_or (slots ++ None ∷ []) i None ≡ None
+blank_push slots n len blank i = ⊎_elim
+    (λ (within : i < length slots). get_or_append_left slots _ None i within ∙ blank i)
+    (λ (past : length slots ≤ i). ⊎_elim
+    (λ (here : i ≡ length slots). get_or_push slots None None i (sym here))
+    (λ (other : i ≢ length slots). get_or_past _ i None (rw (length-append slots (None ∷ [])) (omega arith)))
+    (cases_eq i (length slots)))
+    (cases_lt i (length slots))

@@ -1,0 +1,83 @@
+-- Lemmas on the pages where a slot is given to an entry.
+use Rattle.std.proofs.Common.{◌≡◌, ℕ, ◌+◌, ◌/◌, ◌%◌, ◌<◌, List, Bool, true, false, cond, Option, Some, None, length, get_or, set, ◌==◌, refl, sym, ap, ◌∙◌, arith, is_some, count_by, ⊎_elim, ◌≢◌}
+use Rattle.std.proofs.lemmas.Bool.{cases_eq, eq-eqb, ne_eqb}
+use Rattle.std.specs.Option.{option_map}
+use Rattle.std.proofs.lemmas.List.{length-set}
+use Rattle.std.proofs.lemmas.List.Sums.{sum_by-set}
+use Rattle.machine_state.specs.Memory.{Swap}
+use Rattle.guest_pages.specs.declared.entry.Entry.{Entry}
+use Rattle.guest_pages.specs.Entry.{is_resident, is_in_frame}
+use Rattle.guest_pages.specs.Table.{Mapped, Table, with_entry}
+use Rattle.guest_pages.specs.Pages.{PagesValue, Seat, mapped_of, table_of, seat_byte, byte_of, mapped_count}
+use Rattle.guest_pages.specs.Changes.{KeepsSize}
+use Rattle.guest_pages.specs.Slots.{CanTake, AreShared}
+use Rattle.guest_pages.proofs.Seats.{seat_at, seek_taken}
+
+abbrev pub taken : PagesValue → ℕ → Entry → PagesValue
+taken pages k entry = record { frames = pages.frames; slots = set pages.slots k (Some entry) }
+
+abbrev pub entry_mapped : ℕ → Entry → Mapped
+entry_mapped k entry = record { slot = k; perms = entry.perms.0; resident = is_resident entry.place }
+
+pub size_taken : (pages : PagesValue) (k : ℕ) (entry : Entry) → KeepsSize pages (taken pages k entry)
+size_taken pages k entry = record { frames = refl; pages = length-set pages.slots k (let o : Option Entry = Some entry in o) }
+
+map_cond : {X Y : Type 0} (f : X → Y) (b : Bool) (x y : Option X) → option_map f (cond b x y) ≡ cond b (option_map f x) (option_map f y)
+map_cond f true x y = refl
+map_cond f false x y = refl
+
+pub table_taken : (pages : PagesValue) (k : ℕ) (entry : Entry) → CanTake pages.slots entry.page k
+    → table_of (taken pages k entry) ≡ with_entry (table_of pages) entry.page (Some (entry_mapped k entry))
+unfolding table_of
+table_taken pages k entry can = λ i page.
+    (ap (option_map mapped_of) (seek_taken pages.slots k entry page can) ∙ map_cond mapped_of (page == entry.page) _ _) i
+
+byte_cond : (swap : Swap) (b : Bool) (x y : Option Seat) (at : ℕ) → seat_byte swap (cond b x y) at ≡ cond b (seat_byte swap x at) (seat_byte swap y at)
+byte_cond swap true x y at = refl
+byte_cond swap false x y at = refl
+
+pub byte_taken : (pages : PagesValue) (k : ℕ) (entry : Entry) → CanTake pages.slots entry.page k → (swap : Swap) (addr : ℕ)
+    → byte_of (taken pages k entry) swap addr
+    ≡ cond (addr / 4096 == entry.page) (seat_byte swap (seat_at k entry) (addr % 4096)) (byte_of pages swap addr)
+unfolding byte_of
+byte_taken pages k entry can swap addr =
+    ap (λ (seat : Option Seat). seat_byte swap seat (addr % 4096)) (seek_taken pages.slots k entry (addr / 4096) can)
+    ∙ byte_cond swap (addr / 4096 == entry.page) _ _ (addr % 4096)
+
+pub count_taken : (pages : PagesValue) (k : ℕ) (entry : Entry) → k < length pages.slots
+    → mapped_count (taken pages k entry) + cond (is_some (get_or pages.slots k None)) 1 0 ≡ mapped_count pages + 1
+unfolding mapped_count
+count_taken pages k entry within = sum_by-set (λ o. cond (is_some o) 1 0) pages.slots k (Some entry) None within
+
+pub frames_taken : (slots : List (Option Entry)) (k : ℕ) (entry : Entry) → k < length slots
+    → count_by is_in_frame (set slots k (Some entry)) + cond (is_in_frame (get_or slots k None)) 1 0
+    ≡ count_by is_in_frame slots + cond (is_resident entry.place) 1 0
+frames_taken slots k entry within = sum_by-set (λ o. cond (is_in_frame o) 1 0) slots k (Some entry) None within
+
+same_case : (table : Table) (page at : ℕ) (entry : Option Mapped) → table page ≡ entry → with_entry table page entry at ≡ table at
+same_case table page at entry is = ⊎_elim
+    (λ (same : at ≡ page). rw (eq-eqb at page same, same) (sym is))
+    (λ (other : at ≢ page). rw (ne_eqb at page other) refl)
+    (cases_eq at page)
+
+-- a table with the entry that it has
+pub with_entry_same : (table : Table) (page : ℕ) (entry : Option Mapped) → table page ≡ entry → with_entry table page entry ≡ table
+with_entry_same table page entry is = λ i at. same_case table page at entry is i
+
+-- a slot given to an entry of which the table says the same
+pub table_kept : (pages : PagesValue) (k : ℕ) (entry : Entry) → CanTake pages.slots entry.page k → table_of pages entry.page ≡ Some (entry_mapped k entry)
+    → table_of (taken pages k entry) ≡ table_of pages
+table_kept pages k entry can is = table_taken pages k entry can ∙ with_entry_same (table_of pages) entry.page (Some (entry_mapped k entry)) is
+
+-- a slot given to an entry with a frame, in place of one with a frame
+pub shared_kept : (slots : List (Option Entry)) (frames free capacity k : ℕ) (entry : Entry) → k < length slots → is_in_frame (get_or slots k None) ≡ true
+    → is_resident entry.place ≡ true → AreShared slots frames free capacity → AreShared (set slots k (Some entry)) frames free capacity
+shared_kept slots frames free capacity k entry within before after shares =
+    let counts : count_by is_in_frame (set slots k (Some entry)) + 1 ≡ count_by is_in_frame slots + 1 = rw (before, after) at (frames_taken slots k entry within) in
+    let same : count_by is_in_frame (set slots k (Some entry)) ≡ count_by is_in_frame slots = omega arith in
+    record { shared = rw same shares.shared; room = shares.room }
+
+-- as many pages are mapped where a slot that held one is given to an entry
+pub count_kept : (pages : PagesValue) (k : ℕ) (entry before : Entry) → k < length pages.slots → get_or pages.slots k None ≡ Some before
+    → mapped_count (taken pages k entry) ≡ mapped_count pages
+count_kept pages k entry before within is = let counts : mapped_count (taken pages k entry) + 1 ≡ mapped_count pages + 1 = rw is at (count_taken pages k entry within) in omega arith

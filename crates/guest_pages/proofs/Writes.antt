@@ -1,0 +1,162 @@
+-- Lemmas on pages of which a part was written.
+use Rattle.std.proofs.Common.{◌≡◌, ℕ, ◌+◌, ◌-◌, ◌/◌, ◌%◌, ◌<◌, ◌≤◌, List, [], Bool, true, false, cond, Option, Some, None, length, get_or, set, ◌==◌, refl, sym, ap, ◌∙◌, ⊎_elim, arith, take, slice_range, IfSome}
+use Rattle.std.proofs.lemmas.Bool.{cases_eq, eq-eqb, ne_eqb, false≢true}
+use Rattle.machine_state.specs.declared.kinds.Kind.{Kind}
+use Rattle.machine_state.specs.Memory.{Swap, written, miss_at, is_noncanonical}
+use Rattle.machine_state.proofs.MemoryLemmas.{written_on, written_none}
+use Rattle.guest_pages.specs.declared.entry.Entry.{Entry}
+use Rattle.guest_pages.specs.declared.entry.Mark.{Mark}
+use Rattle.guest_pages.specs.declared.entry.Place.{Place}
+use Rattle.guest_pages.specs.declared.entry.Place.TheVariants.{Resident, Zeros, Swapped}
+use Rattle.guest_pages.specs.Entry.{slot_frame, entry_with, is_resident, is_in_frame, place_with, place_marked}
+use Rattle.guest_pages.specs.Table.{blocked, away_at, perms_in}
+use Rattle.guest_pages.specs.Pages.{PagesValue, table_of, byte_of, lent}
+use Rattle.guest_pages.specs.Changes.{IsWritten}
+use Rattle.guest_pages.specs.Slots.{LacksPage, IsSeatOf, CanTake, AreSound, AreShared}
+use Rattle.guest_pages.proofs.Seats.{seek_at, entry_there, take_seat, sound_taken}
+use Rattle.guest_pages.proofs.Tables.{table_at, table_none}
+use Rattle.guest_pages.proofs.Takes.{taken, size_taken, byte_taken, table_kept, shared_kept, count_kept}
+use Rattle.guest_pages.proofs.Walks.{ready_here}
+use Rattle.machine_state.specs.declared.kinds.Miss.TheVariants.{Away, NonCanonical, Unmapped}
+use Rattle.guest_pages.proofs.Puts.{get_or-put_at, test_there, test_elsewhere}
+
+-- slot k holds the page of an address in a frame
+pub record IsHeld (pages : PagesValue) (addr k : ℕ) : Type 0 where
+  pub seat : IsSeatOf pages.slots (addr / 4096) k
+  pub entry : Entry
+  pub is : get_or pages.slots k None ≡ Some entry
+  pub page_is : entry.page ≡ addr / 4096
+  pub bytes : List ℕ
+  pub mark : Mark
+  pub place_is : entry.place ≡ Resident bytes mark
+  pub whole : length bytes ≡ 4096
+
+resident_case : (resident : Bool) (slot : ℕ) → cond resident None (Some (Away slot)) ≡ None → resident ≡ true
+resident_case true slot h = refl
+resident_case false slot h = cc
+
+place_there : (place : Place) → is_resident place ≡ true → (bytes : List ℕ) × (mark : Mark) × (place ≡ Resident bytes mark)
+place_there (Resident bytes mark) h = (bytes, mark, refl)
+place_there Zeros h = absurd (false≢true h)
+place_there Swapped h = absurd (false≢true h)
+
+-- the entry of the page of an access that can be made
+pub ready_entry : (pages : PagesValue) (kind : Kind) (addr k len : ℕ) → IsSeatOf pages.slots (addr / 4096) k → 0 < len → blocked (table_of pages) kind addr len ≡ None
+    → (entry : Entry) × (get_or pages.slots k None ≡ Some entry) × (entry.page ≡ addr / 4096) × (is_resident entry.place ≡ true)
+ready_entry pages kind addr k len seat some ready =
+    let there = entry_there (get_or pages.slots k None) (addr / 4096) seat.here in
+    let mapped = table_at pages (addr / 4096) k there.0 seat there.1 in
+    let here : away_at (table_of pages (addr / 4096)) ≡ None = (ready_here (table_of pages) kind addr len some ready).1 in
+    (there.0, there.1, there.2, resident_case (is_resident there.0.place) k (rw mapped at here))
+
+-- the page of an access that can be made is mapped
+pub never_lacks : (pages : PagesValue) (kind : Kind) (addr len : ℕ) → LacksPage pages.slots (addr / 4096) → 0 < len → blocked (table_of pages) kind addr len ≡ None → ⊥
+never_lacks pages kind addr len lacks some ready =
+    let here : miss_at (perms_in (table_of pages)) kind addr ≡ None = (ready_here (table_of pages) kind addr len some ready).0 in
+    unmapped_case (is_noncanonical addr) addr (rw (table_none pages (addr / 4096) lacks) at here)
+  where
+    unmapped_case : (b : Bool) (addr : ℕ) → cond b (Some (NonCanonical addr)) (Some (Unmapped addr)) ≡ None → ⊥
+    unmapped_case true addr h = cc
+    unmapped_case false addr h = cc
+
+pub ready_frame : (pages : PagesValue) (kind : Kind) (addr k len : ℕ) → IsSeatOf pages.slots (addr / 4096) k → 0 < len → blocked (table_of pages) kind addr len ≡ None
+    → is_in_frame (get_or pages.slots k None) ≡ true
+ready_frame pages kind addr k len seat some ready = let entry = ready_entry pages kind addr k len seat some ready in rw entry.1 entry.3
+
+pub ready_held : (pages : PagesValue) (kind : Kind) (addr k len : ℕ) → IsSeatOf pages.slots (addr / 4096) k → 0 < len → blocked (table_of pages) kind addr len ≡ None
+    → IfSome (slot_frame (get_or pages.slots k None)) (λ bytes. length bytes ≡ 4096) → IsHeld pages addr k
+ready_held pages kind addr k len seat some ready whole =
+    let entry = ready_entry pages kind addr k len seat some ready in
+    let place = place_there entry.0.place entry.3 in
+    record {
+      seat = seat;
+      entry = entry.0;
+      is = entry.1;
+      page_is = entry.2;
+      bytes = place.0;
+      mark = place.1;
+      place_is = place.2;
+      whole = rw (entry.1, place.2) at whole;
+    }
+
+pub lent_at : (pages : PagesValue) (addr k : ℕ) (entry : Entry) (other : List ℕ) → IsSeatOf pages.slots (addr / 4096) k → get_or pages.slots k None ≡ Some entry
+    → lent pages addr other ≡ taken pages k (entry_with entry (addr % 4096) other)
+unfolding lent
+lent_at pages addr k entry other seat is = rw (seek_at pages.slots (addr / 4096) k entry seat is) refl
+
+byte_at : (pages : PagesValue) (addr k : ℕ) (held : IsHeld pages addr k) (swap : Swap) (at : ℕ) → addr / 4096 ≡ at / 4096
+    → byte_of pages swap at ≡ get_or held.bytes (at % 4096) 0
+unfolding byte_of
+byte_at pages addr k held swap at same = rw (← same, seek_at pages.slots (addr / 4096) k held.entry held.seat held.is, held.place_is) refl
+
+module _ (pages : PagesValue) (addr k : ℕ) (held : IsHeld pages addr k) (sound : AreSound pages.slots) (other : List ℕ) (fits : addr % 4096 + length other ≤ 4096) where
+  can : CanTake pages.slots held.entry.page k
+  can = rw held.page_is (take_seat pages.slots (addr / 4096) k sound.apart held.seat)
+
+  table_same : table_of (taken pages k (entry_with held.entry (addr % 4096) other)) ≡ table_of pages
+  table_same =
+      table_kept pages k (entry_with held.entry (addr % 4096) other) can
+      (rw held.page_is (table_at pages (addr / 4096) k held.entry held.seat held.is ∙ rw held.place_is refl))
+
+  byte_case : (swap : Swap) (at : ℕ) → byte_of (taken pages k (entry_with held.entry (addr % 4096) other)) swap at ≡ written (byte_of pages swap) addr other at
+  byte_case swap at = ⊎_elim
+      (λ (here : addr / 4096 ≡ at / 4096).
+      let test : (at / 4096 == held.entry.page) ≡ true = eq-eqb (at / 4096) held.entry.page (sym here ∙ sym held.page_is) in
+      let index : at % 4096 - addr % 4096 ≡ at - addr = omega arith in
+      let room : addr % 4096 + length other ≤ length held.bytes = rw held.whole fits in
+      byte_taken pages k (entry_with held.entry (addr % 4096) other) can swap at
+      ∙ rw (test, held.place_is)
+      (get_or-put_at held.bytes (addr % 4096) (at % 4096) other room
+      ∙ (λ i. cond (test_there addr at (length other) here i) (get_or other (index i) 0) (sym (byte_at pages addr k held swap at here) i))))
+      (λ (there : addr / 4096 ≡ at / 4096 → ⊥).
+      let test : (at / 4096 == held.entry.page) ≡ false = ne_eqb (at / 4096) held.entry.page (λ same. there (sym (same ∙ held.page_is))) in
+      byte_taken pages k (entry_with held.entry (addr % 4096) other) can swap at
+      ∙ rw (test, test_elsewhere addr at (length other) fits there) refl)
+      (cases_eq (addr / 4096) (at / 4096))
+
+  -- the pages as they are once a part that was lent is written
+  pub written_there : IsWritten pages (lent pages addr other) addr other
+  written_there = rw (lent_at pages addr k held.entry other held.seat held.is) (record {
+    size = size_taken pages k (entry_with held.entry (addr % 4096) other);
+    table = table_same;
+    byte = λ swap i at. byte_case swap at i;
+    count = count_kept pages k (entry_with held.entry (addr % 4096) other) held.entry held.seat.within held.is;
+  })
+
+-- what the pages keep of their slots holds whatever is written to the part that was lent
+pub lent_sound : (slots : List (Option Entry)) (frames free capacity page k at : ℕ) (entry : Entry) (other : List ℕ) → IsSeatOf slots page k
+    → get_or slots k None ≡ Some entry → entry.page ≡ page → is_resident entry.place ≡ true → AreSound slots → AreShared slots frames free capacity
+    → AreSound (set slots k (Some (entry_with entry at other))) × AreShared (set slots k (Some (entry_with entry at other))) frames free capacity
+lent_sound slots frames free capacity page k at entry other seat is page_is resident sound shares =
+    let can : CanTake slots entry.page k = rw page_is (take_seat slots page k sound.apart seat) in
+    let low : entry.page < 0x800000000 = rw page_is (sound.low k page seat.within seat.here) in
+    let before : is_in_frame (get_or slots k None) ≡ true = rw is resident in (
+      sound_taken slots k (entry_with entry at other) can low sound,
+      shared_kept slots frames free capacity k (entry_with entry at other) seat.within before (stays entry.place resident) shares,
+    )
+  where
+    stays : (place : Place) → is_resident place ≡ true → is_resident (place_with (place_marked place) at other) ≡ true
+    stays (Resident bytes mark) h = refl
+    stays Zeros h = h
+    stays Swapped h = h
+
+pub written_nothing : (pages : PagesValue) (addr : ℕ) → IsWritten pages pages addr []
+written_nothing pages addr = record {
+  size = record { frames = refl; pages = refl };
+  table = refl;
+  byte = λ swap. sym (written_none (byte_of pages swap) addr);
+  count = refl;
+}
+
+-- two writes, the second going on where the first ended, are one
+pub writes_on : (old mid new : PagesValue) (addr : ℕ) (bytes : List ℕ) (from end : ℕ) → from ≤ end → end ≤ length bytes → IsWritten old mid addr (take from bytes)
+    → IsWritten mid new (addr + from) (slice_range bytes from end) → IsWritten old new addr (take end bytes)
+writes_on old mid new addr bytes from end h l first second = record {
+  size = record { frames = second.size.frames ∙ first.size.frames; pages = second.size.pages ∙ first.size.pages };
+  table = second.table ∙ first.table;
+  byte = λ swap.
+      second.byte swap
+      ∙ ap (λ (f : ℕ → ℕ). written f (addr + from) (slice_range bytes from end)) (first.byte swap)
+      ∙ written_on (byte_of old swap) addr bytes from end h l;
+  count = second.count ∙ first.count;
+}

@@ -1,0 +1,10 @@
+pub use Rattle.machine_state.specs.Memory
+pub mod Bytes
+pub mod FrameLends
+pub mod Entry
+pub mod EntryLends
+pub mod Table
+pub mod Pages
+pub mod Changes
+pub mod Slots
+pub mod PagesLends

@@ -1,0 +1,54 @@
+-- What the pages keep of their slots. No public clause cites this module.
+use Rattle.std.specs.Prelude.{ℕ, ◌≡◌, ◌+◌, ◌<◌, ◌≤◌, ◌^◌, ◌/◌, List, true, false, Option, None, slice_index_or, length, count_by}
+use Rattle.machine_state.specs.Memory.{miss_at, first_miss}
+use Rattle.machine_state.specs.declared.kinds.Kind.{Kind}
+use Rattle.machine_state.specs.declared.kinds.Miss.TheVariants.{Away}
+use Rattle.std.specs.Option.{option_map}
+use Rattle.guest_pages.specs.declared.entry.Entry.{Entry}
+use Rattle.guest_pages.specs.Entry.{holds_page, is_in_frame}
+use Rattle.guest_pages.specs.Table.{perms_in, first_away}
+use Rattle.guest_pages.specs.Pages.{PagesValue, table_of}
+
+-- no slot holds the page
+abbrev pub LacksPage : List (Option Entry) → ℕ → Type 0
+LacksPage slots page = (i : ℕ) → i < length slots → holds_page (slice_index_or slots i None) page ≡ false
+
+-- slot k holds the page, and no slot before it does
+pub record IsSeatOf (slots : List (Option Entry)) (page k : ℕ) : Type 0 where
+  pub within : k < length slots
+  pub here : holds_page (slice_index_or slots k None) page ≡ true
+  pub first : (i : ℕ) → i < k → holds_page (slice_index_or slots i None) page ≡ false
+
+-- no two slots hold one page
+abbrev pub AreApart : List (Option Entry) → Type 0
+AreApart slots =
+    (i j page : ℕ) → i < j → j < length slots → holds_page (slice_index_or slots i None) page ≡ true
+    → holds_page (slice_index_or slots j None) page ≡ false
+
+-- no two slots hold one page, pages lie below half of the address space, and slots have numbers of 32 bits
+pub record AreSound (slots : List (Option Entry)) : Type 0 where
+  pub apart : AreApart slots
+  pub low : (k page : ℕ) → k < length slots → holds_page (slice_index_or slots k None) page ≡ true → page < 0x800000000
+  pub few : length slots < 2 ^ 32
+
+-- so many frames are free, the others are with pages, and there is room for all of them
+pub record AreShared (slots : List (Option Entry)) (frames free capacity : ℕ) : Type 0 where
+  pub shared : free + count_by is_in_frame slots ≡ frames
+  pub room : frames ≤ capacity
+
+-- slot k can take the page: it is free or holds it, and no other slot holds it
+pub record CanTake (slots : List (Option Entry)) (page k : ℕ) : Type 0 where
+  pub within : k < length slots
+  pub others : (i : ℕ) → (i ≡ k → ⊥) → holds_page (slice_index_or slots i None) page ≡ false
+  pub here : (q : ℕ) → holds_page (slice_index_or slots k None) q ≡ true → page ≡ q
+
+-- slot k holds the page of an address, whose permissions grant the access to its byte
+pub record IsGranted (pages : PagesValue) (kind : Kind) (addr k : ℕ) : Type 0 where
+  pub grants : miss_at (perms_in (table_of pages)) kind addr ≡ None
+  pub low : addr < 0x800000000000
+  pub seat : IsSeatOf pages.slots (addr / 4096) k
+
+-- an access was walked in whole: each byte is allowed, and the first page away, if there is one, is in this slot
+pub record IsWalked (pages : PagesValue) (kind : Kind) (addr len : ℕ) (away : Option ℕ) : Type 0 where
+  pub allowed : first_miss (perms_in (table_of pages)) kind addr len ≡ None
+  pub away_is : first_away (table_of pages) addr len ≡ option_map Away away

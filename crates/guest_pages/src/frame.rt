@@ -1,0 +1,59 @@
+//! A page's bytes.
+ghost use Rattle.std.specs.Prelude.{◌≡◌, ◌≤◌, ◌+◌, length, slice_range, IfOk, All};
+ghost use Rattle.std.specs.Borrow.{sem};
+ghost use Rattle.guest_pages.specs.FrameLends.{LendsFrame};
+
+use std::alloc::{AllocError, Global};
+use std::marker::Model;
+
+/// Room for one page: 4,096 bytes.
+#[derive(Drop)]
+pub struct Frame {
+    bytes: Vec<u8>,
+}
+
+impl Model for Frame {
+    ghost use Rattle.std.specs.Prelude.{◌≡◌, ℕ, List, length};
+
+    ghost Value = { List ℕ };
+
+    ghost view = { λ frame. frame.bytes.items };
+
+    ghost invariant = { λ frame. length frame.bytes.items ≡ 4096 };
+}
+
+impl Frame {
+    pub fn new(alloc: Global) -> Result<Frame, AllocError>
+        ensures { IfOk result (λ frame. length frame ≡ 4096) }
+    {
+        let bytes = vec![in alloc; 0u8; 4096]?;
+        Ok(Frame { bytes })
+    }
+
+    /// The bytes from `at` on.
+    pub fn part(&self, at: usize, len: usize) -> &[u8]
+        requires { at + len ≤ 4096 }
+        ensures bytes { result.now ≡ slice_range self.now at (at + len) }
+        ensures whole { length self.now ≡ 4096 }
+    {
+        &self.bytes[at..at + len]
+    }
+
+    /// Lends the bytes from `at` on.
+    pub fn lend(&mut self, at: usize, len: usize) -> &mut [u8]
+        requires { at + len ≤ 4096 }
+        ensures* writes_back { sem 𝓛 (LendsFrame self.entry at result) }
+        ensures bytes { result.now ≡ slice_range self.old at (at + len) }
+        ensures len { length result.now ≡ len }
+        ensures whole { length self.old ≡ 4096 }
+    {
+        self.bytes.slice_mut(at..at + len)
+    }
+
+    pub fn clear(&mut self)
+        ensures zeros { All (λ byte. byte ≡ 0) self.new }
+        ensures whole { length self.new ≡ 4096 }
+    {
+        self.bytes.fill(0);
+    }
+}

@@ -1,0 +1,11 @@
+//! Guest memory as pages of 4,096 bytes, each with permissions, of which some are in frames.
+#![tactic(auto)]
+
+mod entry;
+mod frame;
+mod pages;
+
+pub use entry::{Entry, Mark, Place};
+pub use frame::Frame;
+pub use machine_state::{Kind, Miss, Perms};
+pub use pages::{Full, Pages};

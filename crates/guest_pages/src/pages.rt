@@ -1,0 +1,380 @@
+//! The pages of guest memory.
+ghost use Rattle.std.specs.Prelude.{◌≡◌, ◌<◌, ◌≤◌, ◌+◌, length, slice_index_or, MatchOption, None, Some, is_some, count_by, false};
+ghost use Rattle.std.specs.Prelude.{◌-◌, ◌%◌, ◌||◌, nat_lt, vec_len, if◌then◌else◌};
+ghost use Rattle.std.specs.Vec.{vec_capacity};
+ghost use Rattle.guest_pages.specs.Entry.{is_in_frame};
+ghost use Rattle.std.specs.Option.{option_map};
+ghost use Rattle.machine_state.specs.declared.kinds.Miss.TheVariants.{Away};
+ghost use Rattle.machine_state.specs.Memory.{miss_at, or_else};
+ghost use Rattle.guest_pages.specs.Slots.{LacksPage, IsSeatOf};
+
+use crate::entry::{Entry, blank, frame_of, grants, holds, lend, protect, release};
+use crate::frame::Frame;
+use machine_state::{Kind, Miss, Perms};
+use std::alloc::{AllocError, Global};
+use std::marker::Model;
+
+/// As many pages are mapped as there may be.
+#[derive(Clone, Copy, Debug, PartialEq, Eq)]
+pub struct Full;
+
+// The slot that holds a page.
+fn find(slots: &[Option<Entry>], page: u64) -> Option<usize>
+    ensures { MatchOption result (LacksPage slots.now page) (IsSeatOf slots.now page) }
+{
+    for (k, slot) in slots.iter().enumerate() {
+        if holds(slot, page) {
+            return Some(k);
+        }
+    }
+    None
+}
+
+// The first slot that holds no page.
+fn find_free(slots: &[Option<Entry>]) -> Option<usize>
+    ensures { MatchOption result (count_by is_some slots.now ≡ length slots.now) (λ k. (k < length slots.now) × (slice_index_or slots.now k None ≡ None)) }
+{
+    for (k, slot) in slots.iter().enumerate() {
+        if slot.is_none() {
+            return Some(k);
+        }
+    }
+    None
+}
+
+/// The pages of a guest: at most as many are mapped as there are slots, and at most as many of them are in frames as
+/// there are frames. All memory is taken by `new`.
+#[derive(Drop)]
+pub struct Pages {
+    frames: u32,
+    slots: Vec<Option<Entry>>,
+    free: Vec<Frame>,
+}
+
+impl Model for Pages {
+    ghost use Rattle.std.specs.Prelude.{vec_len};
+    ghost use Rattle.std.specs.Vec.{vec_capacity};
+    ghost use Rattle.guest_pages.specs.Pages.{PagesValue};
+    ghost use Rattle.guest_pages.specs.Slots.{AreSound, AreShared};
+
+    ghost Value = { PagesValue };
+
+    ghost view = { λ pages. record { frames = pages.frames; slots = pages.slots.items } };
+
+    ghost invariant = { λ pages. AreSound pages.slots.items × AreShared pages.slots.items pages.frames (vec_len pages.free) (vec_capacity pages.free) };
+}
+
+impl Pages {
+    ghost use Rattle.std.specs.Prelude.{◌≡◌, ◌<◌, ◌≤◌, ◌+◌, ◌/◌, ◌%◌, ◌^◌, ◌↔◌, ℕ, List, length, take, slice_range, slice_index_or, Option, Some, None, MatchResult, MatchOption, OnOk, OnErr, IfOk, IsErr, IsSome, is_some};
+    ghost use Rattle.std.specs.Option.{option_map};
+    ghost use Rattle.std.specs.Borrow.{sem};
+    ghost use Rattle.machine_state.specs.Memory.{first_miss, miss_at};
+    ghost use Rattle.guest_pages.specs.Table.{perms_in, first_away, blocked, answer_of};
+    ghost use Rattle.guest_pages.specs.Pages.{table_of, mapped_count, resident_count, lent};
+    ghost use Rattle.guest_pages.specs.Changes.{AllResident, IsBlank, IsShown, IsWritten, IsMapped, IsProtected};
+    ghost use Rattle.guest_pages.specs.Slots.{LacksPage, IsSeatOf, IsGranted, CanTake, IsWalked};
+    ghost use Rattle.guest_pages.specs.Entry.{away_slot_of};
+    ghost use Rattle.guest_pages.specs.PagesLends.{LendsPages};
+
+    /// Takes all the memory that the pages will ever have.
+    pub fn new(alloc: Global, frames: u32, pages: u32) -> Result<Pages, AllocError>
+        requires some { 8 ≤ frames }
+        requires fit { frames ≤ pages }
+        ensures blank { IfOk result (λ new. IsBlank new frames pages) }
+        ensures resident { IfOk result AllResident }
+    {
+        let mut slots = Vec::with_capacity(alloc, pages as usize)?;
+        for _ in 0..pages {
+            slots.push_reserved(None);
+        }
+        let mut free = Vec::with_capacity(alloc, frames as usize)?;
+        for _ in 0..frames {
+            free.push_reserved(Frame::new(alloc)?);
+        }
+        Ok(Pages {
+            frames,
+            slots,
+            free,
+        })
+    }
+
+    // The slot of a page.
+    fn seat(&self, page: u64) -> Option<usize>
+        ensures { MatchOption result (LacksPage self.now.slots page) (IsSeatOf self.now.slots page) }
+    {
+        find(&self.slots, page)
+    }
+
+    // The slot of the page at an address, where the access to that byte is allowed.
+    fn locate(&self, addr: u64, kind: Kind) -> Result<usize, Miss>
+        ensures { MatchResult result (IsGranted self.now kind addr) (λ miss. miss_at (perms_in (table_of self.now)) kind addr ≡ Some miss) }
+    {
+        match self.seat(addr / 4096) {
+            Some(k) => {
+                if grants(&self.slots[k], kind) {
+                    Ok(k)
+                } else {
+                    Err(Miss::Denied(addr))
+                }
+            }
+            None => Err(absence(addr)),
+        }
+    }
+
+    // The slot of a page that is away, by its own slot.
+    fn away_slot(&self, k: usize) -> Option<u32>
+        requires there { k < length self.now.slots }
+        ensures { result ≡ away_slot_of (slice_index_or self.now.slots k None) k }
+    {
+        match frame_of(&self.slots[k]) {
+            Some(_) => None,
+            None => Some(k as u32),
+        }
+    }
+
+    // Walks an access along its pages: the slot of the first page away, or why the first byte not allowed isn't.
+    fn walk(&self, addr: u64, len: u64, kind: Kind) -> Result<Option<u32>, Miss>
+        ensures walked { MatchResult result (IsWalked self.now kind addr len) (λ miss. first_miss (perms_in (table_of self.now)) kind addr len ≡ Some miss) }
+        ensures low { OnOk result (0 < len → addr + len ≤ 0x800000000000) }
+    {
+        let mut away = None;
+        let mut at = addr;
+        let mut left = len;
+        while left > 0 {
+            let k = self.locate(at, kind)?;
+            away = earlier(away, self.away_slot(k));
+            let here = 4096 - at % 4096;
+            if left <= here {
+                return Ok(away);
+            }
+            left -= here;
+            at += here;
+        }
+        Ok(away)
+    }
+
+    /// Whether the bytes from `addr` on may be accessed. The answer doesn't look at residency, so it is never `Away`.
+    pub fn allowed(&self, addr: u64, len: u64, kind: Kind) -> Result<(), Miss>
+        ensures answer { result ≡ answer_of (first_miss (perms_in (table_of self.now)) kind addr len) }
+        ensures low { OnOk result (0 < len → addr + len ≤ 0x800000000000) }
+    {
+        match self.walk(addr, len, kind) {
+            Ok(_) => Ok(()),
+            Err(miss) => Err(miss),
+        }
+    }
+
+    /// Whether the bytes from `addr` on can be accessed now.
+    pub fn ready(&self, addr: u64, len: u64, kind: Kind) -> Result<(), Miss>
+        ensures answer { result ≡ answer_of (blocked (table_of self.now) kind addr len) }
+        ensures low { OnOk result (0 < len → addr + len ≤ 0x800000000000) }
+    {
+        match self.walk(addr, len, kind) {
+            Ok(Some(slot)) => Err(Miss::Away(slot)),
+            Ok(None) => Ok(()),
+            Err(miss) => Err(miss),
+        }
+    }
+
+    /// The bytes from `addr` on, within one page.
+    pub fn view(&self, addr: u64, len: usize, kind: Kind) -> Result<&[u8], Miss>
+        requires some { 0 < len }
+        requires one_page { addr % 4096 + len ≤ 4096 }
+        ensures answer { MatchResult result (λ _. blocked (table_of self.now) kind addr len ≡ None) (λ miss. blocked (table_of self.now) kind addr len ≡ Some miss) }
+        ensures bytes { IfOk result (λ shown. IsShown self.now addr len shown.now) }
+    {
+        let k = self.locate(addr, kind)?;
+        match frame_of(&self.slots[k]) {
+            Some(frame) => Ok(frame.part((addr % 4096) as usize, len)),
+            None => Err(Miss::Away(k as u32)),
+        }
+    }
+
+    /// Lends the bytes from `addr` on, within one page that is ready to be written. The page counts as written.
+    pub fn lend_ready(&mut self, addr: u64, len: usize) -> &mut [u8]
+        requires some { 0 < len }
+        requires one_page { addr % 4096 + len ≤ 4096 }
+        requires ready { blocked (table_of self.old) Kind.Write addr len ≡ None }
+        ensures* writes_back { sem 𝓛 (LendsPages self.entry addr result) }
+        ensures len { length result.now ≡ len }
+        ensures written { (bytes : List ℕ) → length bytes ≡ len → IsWritten self.old (lent self.old addr bytes) addr bytes }
+    {
+        match self.seat(addr / 4096) {
+            Some(k) => {
+                let slot = &mut self.slots[k];
+                lend(slot, (addr % 4096) as usize, len)
+            }
+            None => unreachable!(),
+        }
+    }
+
+    // Writes the bytes from `done` on that lie on one page, and says how far that goes.
+    fn write_chunk(&mut self, addr: u64, bytes: &[u8], done: usize) -> usize
+        requires more { done < length bytes.now }
+        requires ready { blocked (table_of self.old) Kind.Write addr (length bytes.now) ≡ None }
+        requires low { addr + length bytes.now < 2 ^ 64 }
+        ensures further { done < result }
+        ensures within { result ≤ length bytes.now }
+        ensures chunk { IsWritten self.old self.new (addr + done) (slice_range bytes.now done result) }
+    {
+        let at = addr + done as u64;
+        let end = chunk_end(at, done, bytes.len());
+        self.lend_ready(at, end - done)
+            .copy_from_slice(&bytes[done..end]);
+        end
+    }
+
+    /// Writes all bytes or none.
+    pub fn write(&mut self, addr: u64, bytes: &[u8]) -> Result<(), Miss>
+        ensures answer { result ≡ answer_of (blocked (table_of self.old) Kind.Write addr (length bytes.now)) }
+        ensures ok { OnOk result (IsWritten self.old self.new addr bytes.now) }
+        ensures err { OnErr result (self.new ≡ self.old) }
+    {
+        self.ready(addr, bytes.len() as u64, Kind::Write)?;
+        let mut done = 0;
+        while done < bytes.len() {
+            done = self.write_chunk(addr, bytes, done);
+        }
+        Ok(())
+    }
+
+    // Reads the bytes from `done` on that lie on one page, and says how far that goes.
+    fn read_chunk(&self, addr: u64, into: &mut [u8], done: usize, kind: Kind) -> usize
+        requires more { done < length into.old }
+        requires ready { blocked (table_of self.now) kind addr (length into.old) ≡ None }
+        requires low { addr + length into.old < 2 ^ 64 }
+        requires so_far { IsShown self.now addr done (take done into.old) }
+        ensures further { done < result }
+        ensures within { result ≤ length into.old }
+        ensures shown { IsShown self.now addr result (take result into.new) }
+    {
+        let at = addr + done as u64;
+        let end = chunk_end(at, done, into.len());
+        match self.view(at, end - done, kind) {
+            Ok(bytes) => into[done..end].copy_from_slice(bytes),
+            Err(_) => unreachable!(),
+        }
+        end
+    }
+
+    /// Reads all bytes or none.
+    pub fn read(&self, addr: u64, into: &mut [u8], kind: Kind) -> Result<(), Miss>
+        ensures answer { result ≡ answer_of (blocked (table_of self.now) kind addr (length into.old)) }
+        ensures ok { OnOk result (IsShown self.now addr (length into.old) into.new) }
+        ensures err { OnErr result (into.new ≡ into.old) }
+    {
+        self.ready(addr, into.len() as u64, kind)?;
+        let mut done = 0;
+        while done < into.len() {
+            done = self.read_chunk(addr, into, done, kind);
+        }
+        Ok(())
+    }
+
+    // The slot of a page, or else a free one.
+    fn seat_for(&self, page: u64) -> Option<usize>
+        ensures { MatchOption result ((table_of self.now page ≡ None) × (mapped_count self.now ≡ length self.now.slots)) (CanTake self.now.slots page) }
+    {
+        match self.seat(page) {
+            Some(k) => Some(k),
+            None => find_free(&self.slots),
+        }
+    }
+
+    // Gives slot k to a page of zeros, in the frame of the page that the slot held, or in one that is free.
+    fn fill(&mut self, k: usize, page: u64, perms: Perms)
+        requires can { CanTake self.old.slots page k }
+        requires low { page < 0x800000000 }
+        ensures mapped { IsMapped self.old self.new page perms.0 }
+        ensures resident { self.old.frames ≡ length self.old.slots → AllResident self.old → AllResident self.new }
+    {
+        let slot = &mut self.slots[k];
+        let frame = take_frame(slot, &mut self.free);
+        *slot = Some(Entry {
+            page,
+            perms,
+            place: blank(frame),
+        });
+    }
+
+    /// Maps the page at the address `addr` as zeros; what was mapped there is gone.
+    pub fn map_page(&mut self, addr: u64, perms: Perms) -> Result<(), Full>
+        requires page { addr % 4096 ≡ 0 }
+        requires low { addr < 0x800000000000 }
+        ensures ok { OnOk result (IsMapped self.old self.new (addr / 4096) perms.0) }
+        ensures full { IsErr result ↔ ((table_of self.old (addr / 4096) ≡ None) × (mapped_count self.old ≡ length self.old.slots)) }
+        ensures err { OnErr result (self.new ≡ self.old) }
+        ensures resident { self.old.frames ≡ length self.old.slots → AllResident self.old → AllResident self.new }
+    {
+        match self.seat_for(addr / 4096) {
+            Some(k) => {
+                self.fill(k, addr / 4096, perms);
+                Ok(())
+            }
+            None => Err(Full),
+        }
+    }
+
+    /// Gives the mapped page at the address `addr` these permissions.
+    pub fn set_perms(&mut self, addr: u64, perms: Perms)
+        requires page { addr % 4096 ≡ 0 }
+        requires low { addr < 0x800000000000 }
+        requires mapped { IsSome (table_of self.old (addr / 4096)) }
+        ensures protected { IsProtected self.old self.new (addr / 4096) perms.0 }
+        ensures resident { AllResident self.old → AllResident self.new }
+    {
+        match self.seat(addr / 4096) {
+            Some(k) => protect(&mut self.slots[k], perms),
+            None => unreachable!(),
+        }
+    }
+}
+
+// Takes a slot's page out, and gives its frame, or else one that is free.
+fn take_frame(slot: &mut Option<Entry>, free: &mut Vec<Frame>) -> Option<Frame>
+    ensures emptied { slot.new ≡ None }
+    ensures frame { is_some result ≡ (is_in_frame slot.old || nat_lt 0 (vec_len free.old)) }
+    ensures count { vec_len free.new + (if is_some result then 1 else 0) ≡ vec_len free.old + (if is_in_frame slot.old then 1 else 0) }
+    ensures capacity { vec_capacity free.new ≡ vec_capacity free.old }
+{
+    match release(slot) {
+        Some(frame) => Some(frame),
+        None => free.pop(),
+    }
+}
+
+// The end, among `len` bytes, of those that lie on the page of the byte `done`, which has the address `at`.
+fn chunk_end(at: u64, done: usize, len: usize) -> usize
+    requires { done < len }
+    ensures further { done < result }
+    ensures within { result ≤ len }
+    ensures one_page { at % 4096 + (result - done) ≤ 4096 }
+{
+    let page_left = 4096 - (at % 4096) as usize;
+    if len - done <= page_left {
+        len
+    } else {
+        done + page_left
+    }
+}
+
+// The first of two slots.
+fn earlier(first: Option<u32>, other: Option<u32>) -> Option<u32>
+    ensures { option_map Away result ≡ or_else (option_map Away first) (option_map Away other) }
+{
+    match first {
+        Some(slot) => Some(slot),
+        None => other,
+    }
+}
+
+// Why the byte at an address can't be had where no page is mapped there.
+fn absence(addr: u64) -> Miss
+    ensures { miss_at (λ _. None) Kind.Read addr ≡ Some result }
+{
+    if addr >= 0x8000_0000_0000 && addr < 0xFFFF_8000_0000_0000 {
+        Miss::NonCanonical(addr)
+    } else {
+        Miss::Unmapped(addr)
+    }
+}
