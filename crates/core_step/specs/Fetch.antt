@@ -1,0 +1,57 @@
+-- The fetch of an instruction, as far as its bytes can be had now.
+use Rattle.std.specs.Prelude.{ℕ, ◌≡◌, ◌<◌, ◌+◌, ◌/◌, ◌%◌, ◌^◌, true, false, Option, Some, None, MatchOption, ⊤}
+use Rattle.machine_state.specs.declared.kinds.Kind.TheVariants.{Execute}
+use Rattle.machine_state.specs.declared.kinds.Miss.{Miss}
+use Rattle.machine_state.specs.declared.kinds.Miss.TheVariants.{Unmapped, Denied, NonCanonical, Away}
+use Rattle.machine_state.specs.declared.kinds.Fault.TheVariants.{Undefined, General, Page}
+use Rattle.machine_state.specs.Memory.{miss_at, bytes_at}
+use Rattle.machine_state.specs.State.{State}
+use Rattle.guest_pages.specs.Table.{Table, perms_in, away_at, blocked}
+use Rattle.core_step.specs.declared.fetching.Fetched.{Fetched}
+use Rattle.core_step.specs.declared.fetching.Fetched.TheVariants.{Instr, Trap, Need}
+use Rattle.core_step.specs.declared.instruction.Seen.{Seen}
+use Rattle.core_step.specs.declared.instruction.Seen.TheVariants.{Spells, Short, Bad}
+use Rattle.core_step.specs.Decode.{seen, IsFit}
+use Rattle.core_step.specs.Act.{act, performed, trapped}
+
+-- so many bytes can be fetched now, and they are `most`, or the next one can't
+pub record IsRun (table : Table) (addr most count : ℕ) (stop : Option Miss) : Type 0 where
+  pub ready : blocked table Execute addr count ≡ None
+  pub end : MatchOption stop (count ≡ most)
+      (λ miss. (count < most) × (blocked table Execute (addr + count) 1 ≡ Some miss))
+
+-- the first bytes from the instruction pointer up can be fetched now and don't end an instruction, and the next one may be
+-- executed, but lies on the away page in this slot
+pub record NeedsPage (table : Table) (byte : ℕ → ℕ) (rip slot : ℕ) : Type 0 where
+  pub count : ℕ
+  pub fewer : count < 15
+  pub ready : blocked table Execute rip count ≡ None
+  pub short : seen (bytes_at byte rip count) ≡ Short
+  pub allowed : miss_at (perms_in table) Execute (rip + count) ≡ None
+  pub away : away_at (table ((rip + count) / 4096)) ≡ Some (Away slot)
+
+-- what comes of a byte that can't be had, where those before it are short
+abbrev pub stopped : Option Miss → Fetched
+stopped None = Trap General
+stopped (Some (Unmapped addr)) = Trap (Page addr false true false)
+stopped (Some (Denied addr)) = Trap (Page addr false true true)
+stopped (Some (NonCanonical addr)) = Trap General
+stopped (Some (Away slot)) = Need slot
+
+-- what comes of bytes by what they spell, and of the next one, which can't be had
+abbrev pub outcome : Seen → Option Miss → Fetched
+outcome (Spells instruction count) stop = Instr instruction count
+outcome Short stop = stopped stop
+outcome Bad stop = Trap Undefined
+
+-- the instruction that was fetched is the one that a step performs, and the fault of a fetch is that of a step
+abbrev pub IsFetched : State → Fetched → Type 0
+IsFetched s (Instr instruction count) = act s ≡ performed instruction ((s.rip + count) % 2 ^ 64) s
+IsFetched s (Trap fault) = act s ≡ trapped fault s
+IsFetched s (Need slot) = ⊤
+
+-- the numbers of registers are below 16
+abbrev pub IsFetchFit : Fetched → Type 0
+IsFetchFit (Instr instruction count) = IsFit instruction
+IsFetchFit (Trap fault) = ⊤
+IsFetchFit (Need slot) = ⊤
