@@ -1,0 +1,79 @@
+-- A run, step by step.
+use Rattle.std.proofs.Common.{◌≡◌, inl, inr, ℕ, suc, Option, Some, None, refl, sym, ◌∙◌, ap, subst}
+use Rattle.machine_state.specs.declared.kinds.RunEnd.{RunEnd}
+use Rattle.machine_state.specs.declared.kinds.RunEnd.TheVariants.{Budget}
+use Rattle.machine_state.specs.World.{World}
+use Rattle.core_step.specs.Act.{After, act}
+use Rattle.xemu_top.specs.Call.{Ran}
+use Rattle.xemu_top.specs.Step.{step, after_act}
+use Rattle.xemu_top.specs.Run.{run, Files, Outside, outside, Between, MayStand}
+use Rattle.xemu_top.specs.Command.{end_of}
+use Rattle.xemu_top.specs.Following.{Follows, Runs}
+
+-- a step by what its instruction's own part leaves
+pub step_is : (w : World) (after : After) → after ≡ act w.state → step w ≡ after_act after.acted (record w { state = after.state })
+unfolding step
+step_is w after is = ap (λ (a : After). after_act a.acted (record w { state = a.state })) (sym is)
+
+-- one step that doesn't end, and then the rest
+run-goes_on : (w : World) (steps : ℕ) → (step w).end ≡ None → run w (suc steps) ≡ run (step w).world steps
+unfolding run
+run-goes_on w steps on = rw (on, run) refl
+
+-- one step that ends
+run-ends : (w : World) (steps : ℕ) (end : RunEnd) → (step w).end ≡ Some end → run w (suc steps) ≡ step w
+unfolding run
+run-ends w steps end is =
+    let P : Option RunEnd → Type 0 = λ v. elim v [ None ↦ run (step w).world steps | Some end ↦ step w ] ≡ step w in
+    subst P (sym is) refl
+
+run-none : (w : World) → run w 0 ≡ record { world = w; end = None }
+unfolding run
+run-none w = refl
+
+-- a failure in this step
+MayStand-now : (files : Files) (w : World) (steps : ℕ) (now : Outside) → Between (outside files w) (outside files (step w).world) now
+    → MayStand files w (suc steps) now
+unfolding MayStand
+MayStand-now files w steps now between = inl between
+
+-- a failure in a later step
+MayStand-later : (files : Files) (w : World) (steps : ℕ) (now : Outside) → (step w).end ≡ None → MayStand files (step w).world steps now
+    → MayStand files w (suc steps) now
+unfolding MayStand
+MayStand-later files w steps now on later = inr (on, later)
+
+-- what is left to run from here is what was to run from there
+pub record GoesOn (from : World) (all : ℕ) (now : World) (rest : ℕ) : Type 0 where
+  pub same : run now rest ≡ run from all
+  pub stand : (files : Files) (x : Outside) → MayStand files now rest x → MayStand files from all x
+
+pub goes_on-start : (w : World) (all : ℕ) → GoesOn w all w all
+goes_on-start w all = record { same = refl; stand = λ files x h. h }
+
+pub goes_on-step : (from : World) (all : ℕ) (now next : World) (rest : ℕ)
+    → GoesOn from all now (suc rest) → Follows now (step now) None next → GoesOn from all next rest
+goes_on-step from all now next rest so_far follows =
+    let at : next ≡ (step now).world = follows.whole refl in
+    let on : (step now).end ≡ None = sym (follows.end refl) in
+    rw at (record {
+      same = sym (run-goes_on now rest on) ∙ so_far.same;
+      stand = λ files x h. so_far.stand files x (MayStand-later files now rest x on h);
+    })
+
+pub runs-ends : (from : World) (all : ℕ) (now next : World) (rest : ℕ) (end : RunEnd)
+    → GoesOn from all now (suc rest) → Follows now (step now) (Some end) next → Runs from all end next
+runs-ends from all now next rest end so_far follows = record {
+  whole = λ own.
+      follows.whole own ∙ ap (λ (r : Ran). r.world) (sym (run-ends now rest end (sym (follows.end own))) ∙ so_far.same);
+  end = λ own.
+      ap end_of (follows.end own) ∙ ap (λ (r : Ran). end_of r.end) (sym (run-ends now rest end (sym (follows.end own))) ∙ so_far.same);
+  failed = λ stopped files. so_far.stand files (outside files next) (MayStand-now files now rest (outside files next) (follows.failed stopped files));
+}
+
+pub runs-budget : (from : World) (all : ℕ) (now : World) → GoesOn from all now 0 → Runs from all Budget now
+runs-budget from all now so_far = record {
+  whole = λ own. ap (λ (r : Ran). r.world) (sym (run-none now) ∙ so_far.same);
+  end = λ own. ap (λ (r : Ran). end_of r.end) (sym (run-none now) ∙ so_far.same);
+  failed = λ stopped files. cc;
+}

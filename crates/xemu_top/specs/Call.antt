@@ -1,0 +1,87 @@
+-- System calls: the number and the answer are in rax, the arguments in rdi, rsi and rdx (System V ABI for AMD64, A.2.1).
+use Rattle.std.specs.Prelude.{ℕ, ◌-◌, ◌%◌, ◌^◌, ◌==◌, ◌++◌, Bool, if◌then◌else◌, List, [], Option, Some, None, is_none, min, slice_index, slice_set}
+use Rattle.machine_state.specs.declared.kinds.Kind.TheVariants.{Read}
+use Rattle.machine_state.specs.declared.kinds.RunEnd.{RunEnd}
+use Rattle.machine_state.specs.declared.kinds.RunEnd.TheVariants.{Exit}
+use Rattle.machine_state.specs.Memory.{Memory, first_miss, bytes_at}
+use Rattle.machine_state.specs.State.{State}
+use Rattle.machine_state.specs.World.{World, Descriptor, Input, Output, ErrorOutput, Opened}
+
+-- the world after a piece of work, and the guest's end, where it has ended
+pub record Ran : Type 0 where
+  pub world : World
+  pub end : Option RunEnd
+
+abbrev pub goes_on : World → Ran
+goes_on w = record { world = w; end = None }
+
+abbrev pub ends : RunEnd → World → Ran
+ends end w = record { world = w; end = Some end }
+
+-- general registers by their numbers (SDM volume 2, table 2-2 of 2.2.1)
+abbrev pub rax : State → ℕ
+rax s = slice_index s.gprs 0
+
+abbrev pub rdx : State → ℕ
+rdx s = slice_index s.gprs 2
+
+abbrev pub rsi : State → ℕ
+rsi s = slice_index s.gprs 6
+
+abbrev pub rdi : State → ℕ
+rdi s = slice_index s.gprs 7
+
+-- the state with an answer in rax
+abbrev pub answered : State → ℕ → State
+answered s value = record s { gprs = slice_set s.gprs 0 value }
+
+-- a refusal as a register has it: the error's number, negative
+abbrev pub refusal : ℕ → ℕ
+refusal errno = 2 ^ 64 - errno
+
+-- EBADF 9, EFAULT 14 and ENOSYS 38 of Linux
+abbrev pub bad_descriptor : ℕ
+bad_descriptor = refusal 9
+
+abbrev pub bad_address : ℕ
+bad_address = refusal 14
+
+abbrev pub no_such_call : ℕ
+no_such_call = refusal 38
+
+-- whether each of so many bytes may be read
+abbrev pub is_readable : Memory → ℕ → ℕ → Bool
+is_readable memory addr count = is_none (first_miss memory.perms Read addr count)
+
+-- what a write of so many bytes puts: all of them, or nothing where one may not be read
+unfoldable pub put_bytes : Memory → ℕ → ℕ → List ℕ
+put_bytes memory addr count = if is_readable memory addr count then bytes_at memory.byte addr count else []
+
+unfoldable pub put_answer : Memory → ℕ → ℕ → ℕ
+put_answer memory addr count = if is_readable memory addr count then count else bad_address
+
+-- a write to what a descriptor stands for
+abbrev pub write_to : Option Descriptor → ℕ → ℕ → World → World
+write_to (Some Output) addr count w =
+    record w { state = answered w.state (put_answer w.state.memory addr count); out = w.out ++ put_bytes w.state.memory addr count }
+write_to (Some ErrorOutput) addr count w =
+    record w { state = answered w.state (put_answer w.state.memory addr count); err = w.err ++ put_bytes w.state.memory addr count }
+write_to (Some Input) addr count w = record w { state = answered w.state bad_descriptor }
+write_to (Some (Opened file)) addr count w = record w { state = answered w.state bad_descriptor }
+write_to None addr count w = record w { state = answered w.state bad_descriptor }
+
+-- lengths above this count as this (MAX_RW_COUNT of Linux)
+abbrev pub longest_transfer : ℕ
+longest_transfer = 2 ^ 31 - 4096
+
+-- write, call 1: of the descriptor only the low 32 bits count
+abbrev pub write_call : World → World
+write_call w = write_to (w.descriptors (rdi w.state % 2 ^ 32)) (rsi w.state) (min (rdx w.state) longest_transfer) w
+
+-- a system call, with rip, rcx and r11 as SYSCALL leaves them: write, exit (call 60, the status is the low 8 bits), and
+-- ENOSYS for every other number
+unfoldable pub called : World → Ran
+called w =
+    if rax w.state == 1 then goes_on (write_call w)
+    else if rax w.state == 60 then ends (Exit (rdi w.state % 2 ^ 8)) w
+    else goes_on (record w { state = answered w.state no_such_call })

@@ -1,0 +1,188 @@
+-- The command: from the words, the host's files and the input to the end, the output and the machine that is left.
+use Rattle.std.specs.Prelude.{◌≡◌, ℕ, ◌+◌, ◌-◌, ◌*◌, ◌/◌, ◌==◌, ◌≤◌, Bool, not, if◌then◌else◌, List, [], ◌∷◌, length, nat_lt, nat_le, nat_eq, ◌&&◌, Option, Some, None, slice_index, slice_index_or, take, drop, replicate, IsTrue}
+use Rattle.std.specs.Cmp.Lexicographic.{pointwise}
+use Rattle.std.specs.List.{list_any, starts_with}
+use Rattle.byteorder.specs.Endian.{little_number}
+use Rattle.machine_state.specs.declared.kinds.RunEnd.{RunEnd}
+use Rattle.machine_state.specs.declared.kinds.HostCall.{HostCall}
+use Rattle.machine_state.specs.declared.kinds.HostCall.TheVariants.{Load, Store, SwapOpen, SwapGet, SwapPut, Take, PutOut, PutErr}
+use Rattle.machine_state.specs.Memory.{Memory}
+use Rattle.machine_state.specs.State.{State, no_flags, initial_extended}
+use Rattle.machine_state.specs.World.{World, default_action, no_alternate, first_descriptors}
+use Rattle.xemu_top.specs.declared.ends.End.{End}
+use Rattle.xemu_top.specs.declared.ends.End.TheVariants.{Exit, Killed, Budget, Words, Image, Host, Memory as NoMemory}
+use Rattle.xemu_top.specs.Call.{Ran}
+use Rattle.xemu_top.specs.Run.{run, Files, Outside, outside, MayStand}
+
+-- a path: it has a byte, doesn't begin with `--` and has no byte 0
+abbrev pub path_fits : List ℕ → Bool
+path_fits path = not (starts_with nat_eq path (45 ∷ 45 ∷ [])) && not (list_any (λ byte. nat_eq byte 0) path) && not (length path == 0)
+
+abbrev pub first_word : List (List ℕ) → List ℕ
+first_word words = slice_index_or words 0 []
+
+abbrev pub path_word : List (List ℕ) → List ℕ
+path_word words = slice_index_or words 1 []
+
+-- two words: `run` and a path
+abbrev pub words_fit : List (List ℕ) → Bool
+words_fit words = length words == 2 && pointwise nat_eq (first_word words) (114 ∷ 117 ∷ 110 ∷ []) && path_fits (path_word words)
+
+-- bytes 0 to 23 of the file header (ELF-64, file header): the magic number, class 64, little-endian, version 1; an executable
+-- for x86-64, version 1. The entry follows
+abbrev pub header_front : List ℕ
+header_front =
+    127 ∷ 69 ∷ 76 ∷ 70 ∷ 2 ∷ 1 ∷ 1 ∷ 0 ∷ 0 ∷ 0 ∷ 0 ∷ 0 ∷ 0 ∷ 0 ∷ 0 ∷ 0
+    ∷ 2 ∷ 0 ∷ 62 ∷ 0 ∷ 1 ∷ 0 ∷ 0 ∷ 0 ∷ []
+
+-- bytes 32 to 95: program headers at 64, no section headers, no flags, a header of 64 bytes, one program header of 56 bytes;
+-- then that header, a load with read and execute, of the file from 0 on to address 400000H (ELF-64, program header)
+abbrev pub header_back : List ℕ
+header_back =
+    64 ∷ 0 ∷ 0 ∷ 0 ∷ 0 ∷ 0 ∷ 0 ∷ 0 ∷ 0 ∷ 0 ∷ 0 ∷ 0 ∷ 0 ∷ 0 ∷ 0 ∷ 0
+    ∷ 0 ∷ 0 ∷ 0 ∷ 0 ∷ 64 ∷ 0 ∷ 56 ∷ 0 ∷ 1 ∷ 0 ∷ 0 ∷ 0 ∷ 0 ∷ 0 ∷ 0 ∷ 0
+    ∷ 1 ∷ 0 ∷ 0 ∷ 0 ∷ 5 ∷ 0 ∷ 0 ∷ 0 ∷ 0 ∷ 0 ∷ 0 ∷ 0 ∷ 0 ∷ 0 ∷ 0 ∷ 0
+    ∷ 0 ∷ 0 ∷ 64 ∷ 0 ∷ 0 ∷ 0 ∷ 0 ∷ 0 ∷ 0 ∷ 0 ∷ 64 ∷ 0 ∷ 0 ∷ 0 ∷ 0 ∷ 0 ∷ []
+
+-- the number of 8 bytes from a place on
+abbrev pub number_from : List ℕ → ℕ → ℕ
+number_from bytes place = little_number 8 (drop place bytes)
+
+-- whether a file has that header
+unfoldable pub header_fits : List ℕ → Bool
+header_fits bytes =
+    pointwise nat_eq (take 24 bytes) header_front && pointwise nat_eq (take 64 (drop 32 bytes)) header_back
+
+-- whether its one segment is the whole file: the sizes at 96 and 104
+unfoldable pub sizes_fit : List ℕ → Bool
+sizes_fit bytes = number_from bytes 96 == length bytes && number_from bytes 104 == length bytes
+
+-- the one form of image so far: that header, the whole file as its one segment, and at least one byte of code
+unfoldable pub image_fits : List ℕ → Bool
+image_fits bytes = nat_le 121 (length bytes) && nat_le (length bytes) 67108864 && header_fits bytes && sizes_fit bytes
+
+unfoldable pub entry_of : List ℕ → ℕ
+entry_of bytes = number_from bytes 24
+
+-- how many pages hold so many bytes
+abbrev pub page_count : ℕ → ℕ
+page_count len = (len + 4095) / 4096
+
+-- whether a page is one of so many from page 400H on, where the image stands
+abbrev pub in_image : ℕ → ℕ → Bool
+in_image count page = nat_le 1024 page && nat_lt page (1024 + count)
+
+-- the image's bytes from 400000H on, and zeros up to its last page's end; read 1 and execute 4
+unfoldable pub image_memory : List ℕ → Memory
+image_memory bytes = record {
+  perms = λ page. if in_image (page_count (length bytes)) page then Some 5 else None;
+  byte = λ addr. if nat_le 4194304 addr then slice_index bytes (addr - 4194304) else 0;
+}
+
+-- all registers are 0 but rip, which is the entry
+unfoldable pub first_state : List ℕ → State
+first_state bytes = record {
+  gprs = replicate 16 0;
+  flags = no_flags;
+  rip = entry_of bytes;
+  extended = initial_extended;
+  fs = 0;
+  gs = 0;
+  steps = 0;
+  memory = image_memory bytes;
+}
+
+-- the load: the first world of an image. The heap starts behind it, and the limits are the defaults
+unfoldable pub first_world : List ℕ → Outside → World
+first_world bytes on = record {
+  state = first_state bytes;
+  pages = 16384;
+  cap = 16777216;
+  of_file = in_image (page_count (length bytes));
+  heap_start = 4194304 + 4096 * page_count (length bytes);
+  break_at = 4194304 + 4096 * page_count (length bytes);
+  actions = λ signal. default_action;
+  blocked = 0;
+  alternate = no_alternate;
+  descriptors = first_descriptors;
+  files = [];
+  left = on.left;
+  out = on.out;
+  err = on.err;
+  random = 0;
+}
+
+-- how a command ends, the state of the machine that it leaves, if it leaves one, and what then stands on the outside
+pub record Outcome : Type 0 where
+  pub end : End
+  pub machine : Option State
+  pub outside : Outside
+
+abbrev pub refused : End → Outside → Outcome
+refused end on = record { end = end; machine = None; outside = on }
+
+abbrev pub end_from : RunEnd → End
+end_from (RunEnd.Exit code) = Exit code
+end_from (RunEnd.Killed signal) = Killed signal
+end_from RunEnd.Budget = Budget
+end_from (RunEnd.Host call) = Host call
+
+-- a run that didn't end has used its budget
+abbrev pub end_of : Option RunEnd → RunEnd
+end_of None = RunEnd.Budget
+end_of (Some end) = end
+
+abbrev pub ran : Files → Ran → Outcome
+ran files after =
+    record { end = end_from (end_of after.end); machine = Some after.world.state; outside = outside files after.world }
+
+abbrev pub on_image : ℕ → List ℕ → Outside → Outcome
+on_image budget bytes on =
+    if image_fits bytes then ran on.files (run (first_world bytes on) budget)
+    else refused (Image (record { number = 15; place = 0 })) on
+
+abbrev pub on_file : ℕ → Option (List ℕ) → Outside → Outcome
+on_file budget None on = refused (Host (Load 1)) on
+on_file budget (Some bytes) on = on_image budget bytes on
+
+-- the command at a budget: the words are read, the program is loaded, its image read, and its steps run. A program that the
+-- host doesn't have is a failure of the host; the path is word 1
+unfoldable pub command : ℕ → List (List ℕ) → Outside → Outcome
+command budget words on =
+    if words_fit words then on_file budget (on.files (path_word words)) on
+    else refused (Words (record { word = 0; kind = 15 })) on
+
+-- what may stand where a call failed while the file's steps run
+abbrev pub StandsOnFile : ℕ → Option (List ℕ) → Outside → Outside → Type 0
+StandsOnFile budget None on now = ⊥
+StandsOnFile budget (Some bytes) on now = IsTrue (image_fits bytes) × MayStand on.files (first_world bytes on) budget now
+
+-- what may stand where a call failed: where the program's load did, all is as it was; where a put did, it was in a step.
+-- No other call is made
+abbrev pub StandsAt : HostCall → ℕ → List (List ℕ) → Outside → Outside → Type 0
+StandsAt (Load word) budget words on now = (word ≡ 1) × IsTrue (words_fit words) × (now ≡ on)
+StandsAt PutOut budget words on now = IsTrue (words_fit words) × StandsOnFile budget (on.files (path_word words)) on now
+StandsAt PutErr budget words on now = IsTrue (words_fit words) × StandsOnFile budget (on.files (path_word words)) on now
+StandsAt (Store word) budget words on now = ⊥
+StandsAt SwapOpen budget words on now = ⊥
+StandsAt SwapGet budget words on now = ⊥
+StandsAt SwapPut budget words on now = ⊥
+StandsAt Take budget words on now = ⊥
+
+-- the exit status of an end (128 and the signal for a guest that was killed, as a shell has it)
+abbrev pub status_of : End → ℕ
+status_of (Exit code) = code
+status_of (Killed signal) = 128 + signal
+status_of Budget = 75
+status_of (Words fault) = 64
+status_of (Image fault) = 65
+status_of (Host call) = 74
+status_of NoMemory = 71
+
+-- a guest that was killed was so by one of Linux's 64 signals
+abbrev pub HasSignal : End → Type 0
+HasSignal (Killed signal) = signal ≤ 64
+HasSignal other = Unit {0}
+
+abbrev pub HasRunSignal : RunEnd → Type 0
+HasRunSignal end = HasSignal (end_from end)

@@ -1,0 +1,122 @@
+-- The headline: a run of the command is the written machine's run. And the cause of each end.
+use Rattle.std.specs.Prelude.{◌≡◌, ℕ, Bool, true, false, List, Option, Some, None, IsTrue, ◌⊎◌}
+use Rattle.machine_state.specs.declared.kinds.HostCall.{HostCall}
+use Rattle.machine_state.specs.declared.kinds.RunEnd.{RunEnd}
+use Rattle.machine_state.specs.declared.kinds.HostCall.TheVariants.{Load, Store, SwapOpen, SwapGet, SwapPut, Take, PutOut, PutErr}
+use Rattle.machine_state.specs.Memory.{Swap}
+use Rattle.machine_state.specs.State.{State}
+use Rattle.host_edge.specs.Causes.{Rose, Counts}
+use Rattle.host_edge.specs.Streams.{told}
+use Rattle.host_edge.specs.Files.{Held}
+use Rattle.core_step.specs.declared.machine.Machine.{Machine}
+use Rattle.core_step.specs.Machine.{state_of}
+use Rattle.xemu_top.specs.declared.ends.End.{End}
+use Rattle.xemu_top.specs.declared.ends.End.TheVariants.{Exit, Killed, Budget, Words, Image, Host, Memory}
+use Rattle.xemu_top.specs.declared.ends.Ended.{Ended}
+use Rattle.xemu_top.specs.Run.{Files, Outside, MayStand}
+use Rattle.xemu_top.specs.Command.{Outcome, command, on_image, StandsAt, first_world, image_fits, status_of, end_from}
+
+-- whether an end is the command's own, and no failure of the outside and no want of memory
+abbrev pub is_own : End → Bool
+is_own (Host call) = false
+is_own Memory = false
+is_own other = true
+
+-- the files of a host, where it tells them
+abbrev pub files_of : Option Held → Files
+files_of None = λ path. None
+files_of (Some held) = held.file
+
+-- the outside as it is told: a host's files, a source's bytes, what two sinks were given
+abbrev pub outside_told : Option Held → Option (List ℕ) → Option (List ℕ) → Option (List ℕ) → Outside
+outside_told held left out err = record { files = files_of held; left = told left; out = told out; err = told err }
+
+-- the state that a machine stands for, where the swap holds this
+abbrev pub state_left : Option Machine → Swap → Option State
+state_left None w = None
+state_left (Some machine) w = Some (state_of machine w)
+
+-- the command ended as the written one does, and left its machine, whatever the swap holds, and its outside
+pub record Gives (outcome : Outcome) (ended : Ended) (now : Outside) : Type 0 where
+  pub end : ended.end ≡ outcome.end
+  pub machine : (w : Swap) → state_left ended.machine w ≡ outcome.machine
+  pub outside_is : now ≡ outcome.outside
+
+-- the headline: a command that ends by itself gives what the written one gives; where a call on the outside failed, what
+-- stands is what the written one leaves on the way to its end; where memory was wanting, nothing was done
+pub record Meets (budget : ℕ) (words : List (List ℕ)) (on : Outside) (ended : Ended) (now : Outside) : Type 0 where
+  pub gives : IsTrue (is_own ended.end) → Gives (command budget words on) ended now
+  pub stands : (call : HostCall) → ended.end ≡ Host call → StandsAt call budget words on now
+  pub nothing : ended.end ≡ Memory → now ≡ on
+
+-- the same from the image on
+pub record MeetsImage (budget : ℕ) (bytes : List ℕ) (on : Outside) (ended : Ended) (now : Outside) : Type 0 where
+  pub gives : IsTrue (is_own ended.end) → Gives (on_image budget bytes on) ended now
+  pub stands : (call : HostCall) → ended.end ≡ Host call → IsTrue (image_fits bytes) × MayStand on.files (first_world bytes on) budget now
+  pub nothing : ended.end ≡ Memory → now ≡ on
+
+-- the counts of failed calls of a host, a source and two sinks
+pub record Tally : Type 0 where
+  pub host : Counts
+  pub take : ℕ
+  pub out : ℕ
+  pub err : ℕ
+
+-- the call on the outside that an end names
+abbrev pub failed_call : End → Option HostCall
+failed_call (Host call) = Some call
+failed_call other = None
+
+-- a call that failed has its count, which rose, and no other count changed; where none failed, none changed. The calls of the
+-- swap, `store` and `take` aren't made
+abbrev pub IsCounted : Option HostCall → Tally → Tally → Type 0
+IsCounted None old new = new ≡ old
+IsCounted (Some (Load word)) old new =
+    (word ≡ 1) × Rose old.host.load new.host.load × (new ≡ record old { host = record old.host { load = new.host.load } })
+IsCounted (Some PutOut) old new = Rose old.out new.out × (new ≡ record old { out = new.out })
+IsCounted (Some PutErr) old new = Rose old.err new.err × (new ≡ record old { err = new.err })
+IsCounted (Some (Store word)) old new = ⊥
+IsCounted (Some SwapOpen) old new = ⊥
+IsCounted (Some SwapGet) old new = ⊥
+IsCounted (Some SwapPut) old new = ⊥
+IsCounted (Some Take) old new = ⊥
+
+-- no count rose, where one that stands at its end counts as one that rose
+pub record NoneRose (old new : Tally) : Type 0 where
+  pub load : Rose old.host.load new.host.load → ⊥
+  pub out : Rose old.out new.out → ⊥
+  pub err : Rose old.err new.err → ⊥
+
+-- the end is a run's own, or want of memory
+abbrev pub is_run_or_memory : End → Bool
+is_run_or_memory (Exit code) = true
+is_run_or_memory (Killed signal) = true
+is_run_or_memory Budget = true
+is_run_or_memory Memory = true
+is_run_or_memory other = false
+
+-- words or an image were refused
+abbrev pub is_refusal : End → Bool
+is_refusal (Words fault) = true
+is_refusal (Image fault) = true
+is_refusal other = false
+
+-- the file that the words name is an image
+abbrev pub IsImage : Option (List ℕ) → Type 0
+IsImage None = ⊥
+IsImage (Some bytes) = IsTrue (image_fits bytes)
+
+-- words that don't fit are refused, unless memory is wanting, and only such words
+pub record RefusesWords (fit : Bool) (end : End) : Type 0 where
+  pub always : fit ≡ false → (end ≡ Words (record { word = 0; kind = 15 })) ⊎ (end ≡ Memory)
+  pub only : fit ≡ true → (fault : _) → end ≡ Words fault → ⊥
+
+-- a machine that a failed call stopped isn't answered
+abbrev pub machine_after : RunEnd → Machine → Option Machine
+machine_after (RunEnd.Host call) machine = None
+machine_after other machine = Some machine
+
+-- the answer of a command by the end of its run
+abbrev pub finished : RunEnd → Machine → Ended
+finished end machine =
+    record { status = status_of (end_from end); end = end_from end; machine = machine_after end machine }

@@ -1,0 +1,216 @@
+//! The system calls of the guest.
+ghost use Rattle.std.specs.Prelude.{◌≡◌, ◌<◌, ◌≤◌, ◌+◌, ◌%◌, ◌^◌, None, Some, is_some, OnOk, OnErr};
+ghost use Rattle.machine_state.specs.Memory.{Swap, bytes_at, first_miss};
+ghost use Rattle.machine_state.specs.World.{first_descriptors};
+ghost use Rattle.host_edge.specs.Causes.{Rose};
+ghost use Rattle.host_edge.specs.Streams.{Puts};
+ghost use Rattle.guest_pages.specs.Table.{blocked, perms_in};
+ghost use Rattle.guest_pages.specs.Pages.{table_of, byte_of};
+ghost use Rattle.guest_pages.specs.Changes.{AllResident};
+ghost use Rattle.core_step.specs.Machine.{state_of};
+ghost use Rattle.xemu_top.specs.Call.{answered, put_bytes, put_answer, write_call, write_to as write_to_spec, called, goes_on};
+ghost use Rattle.xemu_top.specs.Following.{FollowsAt, IsCaused, SignalFits, stopped_by};
+ghost use Rattle.xemu_top.specs.Streams.{stream_of, descriptor_of};
+
+use core_step::Machine;
+use guest_pages::{Kind, Pages};
+use host_edge::{Failed, Sink};
+use machine_state::{HostCall, RunEnd};
+
+const RAX: u8 = 0;
+
+const RDX: u8 = 2;
+
+const RSI: u8 = 6;
+
+const RDI: u8 = 7;
+
+/// EBADF 9, EFAULT 14 and ENOSYS 38, negative, as a register has them.
+const BAD_DESCRIPTOR: u64 = u64::MAX - 9 + 1;
+
+const BAD_ADDRESS: u64 = u64::MAX - 14 + 1;
+
+const NO_SUCH_CALL: u64 = u64::MAX - 38 + 1;
+
+/// The most bytes of one transfer.
+const LONGEST_TRANSFER: u64 = 0x7FFF_F000;
+
+/// The streams that a guest can write to.
+#[derive(Clone, Copy, Debug, PartialEq, Eq)]
+pub(crate) enum Stream {
+    Output,
+    ErrorOutput,
+}
+
+/// The stream that a descriptor is open on; only its low 32 bits count.
+fn stream_of(descriptor: u64) -> Option<Stream>
+    ensures { result ≡ stream_of (first_descriptors (descriptor % 2 ^ 32)) }
+{
+    match descriptor % 0x1_0000_0000 {
+        1 => Some(Stream::Output),
+        2 => Some(Stream::ErrorOutput),
+        _ => None,
+    }
+}
+
+/// Puts bytes that lie on one page and may be read.
+fn send_part<K: Sink>(pages: &Pages, addr: u64, len: usize, sink: &mut K) -> Result<(), Failed>
+    requires some { 0 < len }
+    requires one_page { addr % 4096 + len ≤ 4096 }
+    requires readable { blocked (table_of pages.now) Kind.Read addr len ≡ None }
+    ensures bytes { (w : Swap) → Puts (K.taken sink.old) (K.taken sink.new)
+        (bytes_at (byte_of pages.now w) addr len) result }
+    ensures kept { OnOk result (K.faults sink.new ≡ K.faults sink.old) }
+    ensures rose { OnErr result (Rose (K.faults sink.old) (K.faults sink.new)) }
+{
+    match pages.view(addr, len, Kind::Read) {
+        Ok(bytes) => sink.put(bytes),
+        Err(_) => unreachable!(),
+    }
+}
+
+/// Puts bytes that may be read, page by page.
+fn send<K: Sink>(pages: &Pages, addr: u64, count: u64, sink: &mut K) -> Result<(), Failed>
+    requires readable { first_miss (perms_in (table_of pages.now)) Kind.Read addr count ≡ None }
+    requires resident { AllResident pages.now }
+    requires low { 0 < count → addr + count ≤ 2 ^ 47 }
+    ensures bytes { (w : Swap) → Puts (K.taken sink.old) (K.taken sink.new)
+        (bytes_at (byte_of pages.now w) addr count) result }
+    ensures kept { OnOk result (K.faults sink.new ≡ K.faults sink.old) }
+    ensures rose { OnErr result (Rose (K.faults sink.old) (K.faults sink.new)) }
+{
+    let mut done = 0;
+    while done < count {
+        let at = addr + done;
+        let part = (count - done).min(4096 - at % 4096);
+        match send_part(pages, at, part as usize, sink) {
+            Ok(()) => {}
+            Err(failed) => return Err(failed),
+        }
+        done += part;
+    }
+    Ok(())
+}
+
+fn set_answer(machine: &mut Machine, value: u64)
+    ensures state { (w : Swap) → state_of machine.new w ≡ answered (state_of machine.old w) value }
+    ensures steps { machine.new.steps ≡ machine.old.steps }
+    ensures pages { machine.new.pages ≡ machine.old.pages }
+{
+    machine.gprs.set(RAX, value);
+}
+
+/// Writes bytes of memory to a sink, or refuses where one of them may not be read.
+fn write_to<K: Sink>(
+    machine: &mut Machine,
+    addr: u64,
+    count: u64,
+    sink: &mut K,
+) -> Result<(), Failed>
+    requires { AllResident machine.old.pages }
+    ensures state { OnOk result ((w : Swap) → state_of machine.new w
+        ≡ answered (state_of machine.old w) (put_answer (state_of machine.old w).memory addr count)) }
+    ensures steps { machine.new.steps ≡ machine.old.steps }
+    ensures pages { machine.new.pages ≡ machine.old.pages }
+    ensures bytes { (w : Swap) → Puts (K.taken sink.old) (K.taken sink.new)
+        (put_bytes (state_of machine.old w).memory addr count) result }
+    ensures kept { OnOk result (K.faults sink.new ≡ K.faults sink.old) }
+    ensures rose { OnErr result (Rose (K.faults sink.old) (K.faults sink.new)) }
+{
+    match machine.pages.allowed(addr, count, Kind::Read) {
+        Ok(()) => {}
+        Err(_) => {
+            set_answer(machine, BAD_ADDRESS);
+            return Ok(());
+        }
+    }
+    match send(&machine.pages, addr, count, sink) {
+        Ok(()) => {
+            set_answer(machine, count);
+            Ok(())
+        }
+        Err(failed) => Err(failed),
+    }
+}
+
+/// Writes bytes of memory to a stream.
+fn write_stream<O: Sink, E: Sink>(
+    machine: &mut Machine,
+    stream: Stream,
+    addr: u64,
+    count: u64,
+    out: &mut O,
+    err: &mut E,
+) -> Option<RunEnd>
+    requires { AllResident machine.old.pages }
+    ensures follows { FollowsAt (λ world. goes_on (write_to_spec (Some (descriptor_of stream)) addr count world))
+        machine.old machine.new (O.taken out.old) (O.taken out.new) (E.taken err.old) (E.taken err.new) result }
+    ensures pages { machine.new.pages ≡ machine.old.pages }
+    ensures steps { machine.new.steps ≡ machine.old.steps }
+    ensures out_tells { is_some (O.taken out.new) ≡ is_some (O.taken out.old) }
+    ensures err_tells { is_some (E.taken err.new) ≡ is_some (E.taken err.old) }
+    ensures cause { IsCaused (stopped_by result) (O.faults out.old) (O.faults out.new) (E.faults err.old) (E.faults err.new) }
+    ensures signal { SignalFits result }
+{
+    match stream {
+        Stream::Output => match write_to(machine, addr, count, out) {
+            Ok(()) => None,
+            Err(_) => Some(RunEnd::Host(HostCall::PutOut)),
+        },
+        Stream::ErrorOutput => match write_to(machine, addr, count, err) {
+            Ok(()) => None,
+            Err(_) => Some(RunEnd::Host(HostCall::PutErr)),
+        },
+    }
+}
+
+/// The call write.
+fn write<O: Sink, E: Sink>(machine: &mut Machine, out: &mut O, err: &mut E) -> Option<RunEnd>
+    requires { AllResident machine.old.pages }
+    ensures follows { FollowsAt (λ world. goes_on (write_call world)) machine.old machine.new
+        (O.taken out.old) (O.taken out.new) (E.taken err.old) (E.taken err.new) result }
+    ensures pages { machine.new.pages ≡ machine.old.pages }
+    ensures steps { machine.new.steps ≡ machine.old.steps }
+    ensures out_tells { is_some (O.taken out.new) ≡ is_some (O.taken out.old) }
+    ensures err_tells { is_some (E.taken err.new) ≡ is_some (E.taken err.old) }
+    ensures cause { IsCaused (stopped_by result) (O.faults out.old) (O.faults out.new) (E.faults err.old) (E.faults err.new) }
+    ensures signal { SignalFits result }
+{
+    let descriptor = machine.gprs.get(RDI);
+    let addr = machine.gprs.get(RSI);
+    let count = machine.gprs.get(RDX).min(LONGEST_TRANSFER);
+    match stream_of(descriptor) {
+        Some(stream) => write_stream(machine, stream, addr, count, out, err),
+        None => {
+            set_answer(machine, BAD_DESCRIPTOR);
+            None
+        }
+    }
+}
+
+/// Answers the system call that the registers ask for, or says how the guest ended by it.
+#[tactic(auto, unfolding(crate::specs::Call::called))]
+pub(crate) fn answer_call<O: Sink, E: Sink>(
+    machine: &mut Machine,
+    out: &mut O,
+    err: &mut E,
+) -> Option<RunEnd>
+    requires { AllResident machine.old.pages }
+    ensures follows { FollowsAt called machine.old machine.new
+        (O.taken out.old) (O.taken out.new) (E.taken err.old) (E.taken err.new) result }
+    ensures pages { machine.new.pages ≡ machine.old.pages }
+    ensures steps { machine.new.steps ≡ machine.old.steps }
+    ensures out_tells { is_some (O.taken out.new) ≡ is_some (O.taken out.old) }
+    ensures err_tells { is_some (E.taken err.new) ≡ is_some (E.taken err.old) }
+    ensures cause { IsCaused (stopped_by result) (O.faults out.old) (O.faults out.new) (E.faults err.old) (E.faults err.new) }
+    ensures signal { SignalFits result }
+{
+    match machine.gprs.get(RAX) {
+        1 => write(machine, out, err),
+        60 => Some(RunEnd::Exit((machine.gprs.get(RDI) % 256) as u8)),
+        _ => {
+            set_answer(machine, NO_SUCH_CALL);
+            None
+        }
+    }
+}

@@ -1,0 +1,13 @@
+//! The top call: a command from its words to its end.
+#![tactic(auto)]
+
+mod calls;
+mod ends;
+mod loading;
+mod running;
+#[cfg(test)]
+mod tests;
+mod top;
+
+pub use ends::{End, Ended, ImageFault, WordFault};
+pub use top::emulate;

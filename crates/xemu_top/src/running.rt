@@ -1,0 +1,75 @@
+//! Whole steps, and runs of them.
+ghost use Rattle.std.specs.Prelude.{◌≡◌, ◌<◌, ◌≤◌, ◌+◌, ◌-◌, ◌^◌, Some, is_some};
+ghost use Rattle.guest_pages.specs.Changes.{AllResident};
+ghost use Rattle.xemu_top.specs.Step.{step, signal_of as signal_of_fault};
+ghost use Rattle.xemu_top.specs.Following.{FollowsAt, RunsAt, IsCaused, SignalFits, stopped_by};
+
+use crate::calls::answer_call;
+use core_step::{Acted, Machine};
+use host_edge::Sink;
+use machine_state::{Fault, RunEnd};
+
+/// The signal that a fault raises.
+fn signal_of(fault: Fault) -> u8
+    ensures { result ≡ signal_of_fault fault }
+{
+    match fault {
+        Fault::Divide => 8,
+        Fault::Breakpoint => 5,
+        Fault::Undefined => 4,
+        Fault::General | Fault::Page { .. } => 11,
+    }
+}
+
+/// One whole step: an instruction with its system call's answer, or the end by a fault's signal.
+fn turn<O: Sink, E: Sink>(machine: &mut Machine, out: &mut O, err: &mut E) -> Option<RunEnd>
+    requires room { machine.old.steps < 2 ^ 64 - 1 }
+    requires resident { AllResident machine.old.pages }
+    ensures follows { FollowsAt step machine.old machine.new
+        (O.taken out.old) (O.taken out.new) (E.taken err.old) (E.taken err.new) result }
+    ensures resident { AllResident machine.new.pages }
+    ensures steps { machine.new.steps ≡ machine.old.steps + 1 }
+    ensures out_tells { is_some (O.taken out.new) ≡ is_some (O.taken out.old) }
+    ensures err_tells { is_some (E.taken err.new) ≡ is_some (E.taken err.old) }
+    ensures cause { IsCaused (stopped_by result) (O.faults out.old) (O.faults out.new) (E.faults err.old) (E.faults err.new) }
+    ensures signal { SignalFits result }
+{
+    match machine.step() {
+        Acted::Done => None,
+        Acted::Call => {
+            let end = answer_call(machine, out, err);
+            machine.steps += 1;
+            end
+        }
+        Acted::Trap(fault) => {
+            machine.steps += 1;
+            Some(RunEnd::Killed(signal_of(fault)))
+        }
+        Acted::Need(_) => unreachable!(),
+    }
+}
+
+/// Runs until the guest ends or `upto` steps are completed.
+pub(crate) fn run<O: Sink, E: Sink>(
+    machine: &mut Machine,
+    upto: u64,
+    out: &mut O,
+    err: &mut E,
+) -> RunEnd
+    requires steps { machine.old.steps ≤ upto }
+    requires resident { AllResident machine.old.pages }
+    ensures runs { RunsAt (upto - machine.old.steps) machine.old machine.new
+        (O.taken out.old) (O.taken out.new) (E.taken err.old) (E.taken err.new) result }
+    ensures out_tells { is_some (O.taken out.new) ≡ is_some (O.taken out.old) }
+    ensures err_tells { is_some (E.taken err.new) ≡ is_some (E.taken err.old) }
+    ensures cause { IsCaused (stopped_by (Some result)) (O.faults out.old) (O.faults out.new) (E.faults err.old) (E.faults err.new) }
+    ensures signal { SignalFits (Some result) }
+{
+    while machine.steps < upto {
+        match turn(machine, out, err) {
+            None => {}
+            Some(end) => return end,
+        }
+    }
+    RunEnd::Budget
+}

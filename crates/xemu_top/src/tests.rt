@@ -1,0 +1,140 @@
+//! What the contracts leave open: that memory is found, and that the definitions give what the sample programs should do.
+ghost use Rattle.std.specs.Prelude.{◌≡◌, ◌≤◌, IfOk, length};
+ghost use Rattle.host_edge.specs.NamedFiles.{named};
+
+use super::*;
+use host_edge::{MemHost, MemSink, MemSource};
+use machine_state::HostCall;
+use std::alloc::{AllocError, Global};
+use std::test::Fail;
+
+/// A header, eight instructions from byte 120 on, and `hello` with a line feed.
+const HELLO: [u8; 159] = [
+    0x7F, 0x45, 0x4C, 0x46, 2, 1, 1, 0, 0, 0, 0, 0, 0, 0, 0, 0, 2, 0, 62, 0, 1, 0, 0, 0, 120, 0,
+    0x40, 0, 0, 0, 0, 0, 64, 0, 0, 0, 0, 0, 0, 0, 0, 0, 0, 0, 0, 0, 0, 0, 0, 0, 0, 0, 64, 0, 56, 0,
+    1, 0, 0, 0, 0, 0, 0, 0, 1, 0, 0, 0, 5, 0, 0, 0, 0, 0, 0, 0, 0, 0, 0, 0, 0, 0, 0x40, 0, 0, 0, 0,
+    0, 0, 0, 0x40, 0, 0, 0, 0, 0, 159, 0, 0, 0, 0, 0, 0, 0, 159, 0, 0, 0, 0, 0, 0, 0, 0, 0x10, 0,
+    0, 0, 0, 0, 0, 0xB8, 1, 0, 0, 0, 0xBF, 1, 0, 0, 0, 0x48, 0x8D, 0x35, 16, 0, 0, 0, 0xBA, 6, 0,
+    0, 0, 0x0F, 0x05, 0xB8, 60, 0, 0, 0, 0x31, 0xFF, 0x0F, 0x05, 104, 101, 108, 108, 111, 10,
+];
+
+/// What a command left.
+#[derive(Drop)]
+struct Left {
+    ended: Ended,
+    out: MemSink,
+    err: MemSink,
+}
+
+fn file(alloc: Global, path: &str, bytes: &[u8]) -> Result<(String, Vec<u8>), AllocError>
+    ensures { IfOk result (λ file. named file ≡ record { path = path.now; bytes = bytes.now }) }
+{
+    Ok((
+        String::from_str(alloc, path)?,
+        Vec::from_slice(alloc, bytes)?,
+    ))
+}
+
+/// Runs a command on a host with one file, `hello`, and a sink with this room and these failing calls.
+fn run_command(
+    alloc: Global,
+    words: [&str; 2],
+    bytes: &[u8; 159],
+    room: usize,
+    fail: &[(u64, usize)],
+) -> Result<Left, AllocError> {
+    let files = vec![in alloc; file(alloc, "hello", bytes)?]?;
+    let mut host = MemHost::new(alloc, files, 164, 1, &[])?;
+    let mut input = MemSource::new(alloc, b"unread", 3, &[])?;
+    let mut out = MemSink::new(alloc, room, fail)?;
+    let mut err = MemSink::new(alloc, 100, &[])?;
+    let words = vec![in alloc;
+        String::from_str(alloc, words[0])?,
+        String::from_str(alloc, words[1])?,
+    ]?;
+    let ended = emulate(alloc, &words, &mut host, &mut input, &mut out, &mut err);
+    Ok(Left { ended, out, err })
+}
+
+/// The sample program with other bytes at some places.
+fn hello_with(changes: &[(usize, u8)]) -> [u8; 159] {
+    let mut bytes = HELLO;
+    for (place, byte) in changes {
+        if *place < bytes.len() {
+            bytes[*place] = *byte;
+        }
+    }
+    bytes
+}
+
+fn steps_of(ended: &Ended) -> Option<u64> {
+    match &ended.machine {
+        Some(machine) => Some(machine.steps),
+        None => None,
+    }
+}
+
+#[test]
+fn hello_prints_and_exits_and_its_variants_end_as_they_should(rt: HostRuntime) -> Result<(), Fail> {
+    let alloc = rt.alloc();
+    let hello: &[(usize, u8)] = &[];
+    let unsupported: &[(usize, u8)] = &[(120, 0x0F), (121, 0x58), (122, 0xC1)];
+    let other_call: &[(usize, u8)] = &[(121, 7)];
+    let core_file: &[(usize, u8)] = &[(16, 4)];
+    let no_image = End::Image(ImageFault {
+        number: 15,
+        place: 0,
+    });
+    for (changes, end, status, text, steps) in [
+        (hello, End::Exit(0), 0, "hello\n", Some(8)),
+        (unsupported, End::Killed(4), 132, "", Some(1)),
+        (other_call, End::Exit(0), 0, "", Some(8)),
+        (core_file, no_image, 65, "", None),
+    ] {
+        let left = run_command(alloc, ["run", "hello"], &hello_with(changes), 100, &[])?;
+        assert_eq!(rt; left.ended.end, end);
+        assert_eq!(rt; left.ended.status, status);
+        assert_eq!(rt; left.out.bytes(), text.as_bytes());
+        assert_eq!(rt; left.err.bytes().len(), 0);
+        assert_eq!(rt; steps_of(&left.ended), steps);
+    }
+    Ok(())
+}
+
+#[test]
+fn words_that_do_not_fit_and_a_missing_file_are_refused(rt: HostRuntime) -> Result<(), Fail> {
+    let alloc = rt.alloc();
+    let no_command = End::Words(WordFault { word: 0, kind: 15 });
+    for (words, end, status) in [
+        (["walk", "hello"], no_command, 64),
+        (["run", "--help"], no_command, 64),
+        (["run", ""], no_command, 64),
+        (["run", "none"], End::Host(HostCall::Load(1)), 74),
+    ] {
+        let left = run_command(alloc, words, &HELLO, 100, &[])?;
+        assert_eq!(rt; left.ended.end, end);
+        assert_eq!(rt; left.ended.status, status);
+        assert_eq!(rt; left.out.bytes().len(), 0);
+        assert_eq!(rt; steps_of(&left.ended), None);
+    }
+    Ok(())
+}
+
+#[test]
+fn a_failing_sink_ends_the_run_with_what_it_took(rt: HostRuntime) -> Result<(), Fail> {
+    let alloc = rt.alloc();
+    for (room, taken, text) in [
+        (100, 0, ""),
+        (100, 2, "he"),
+        (100, 6, "hello\n"),
+        (5, 6, ""),
+    ] {
+        let left = run_command(alloc, ["run", "hello"], &HELLO, room, &[(1, taken)])?;
+        assert_eq!(rt; left.ended.end, End::Host(HostCall::PutOut));
+        assert_eq!(rt; left.ended.status, 74);
+        assert_eq!(rt; left.out.bytes(), text.as_bytes());
+        assert_eq!(rt; left.err.bytes().len(), 0);
+        assert_eq!(rt; steps_of(&left.ended), None);
+    }
+    Ok(())
+}

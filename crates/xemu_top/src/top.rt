@@ -1,0 +1,161 @@
+//! The command.
+ghost use Rattle.std.specs.Prelude.{◌≡◌, ◌<◌, ◌≤◌, ◌^◌, ℕ, IsSome, IsTrue, Some, None, true, false, is_some, length, map, string_bytes};
+ghost use Rattle.host_edge.specs.Streams.{told};
+ghost use Rattle.xemu_top.specs.Command.{words_fit as words_fit_spec, path_fits as path_fits_spec, path_word, image_fits as image_fits_spec, status_of, HasSignal, HasRunSignal};
+ghost use Rattle.xemu_top.specs.Run.{Outside};
+ghost use Rattle.xemu_top.specs.Following.{IsCaused};
+ghost use Rattle.xemu_top.specs.Headline.{Meets, MeetsImage, outside_told, Tally, IsCounted, NoneRose, IsImage, files_of, failed_call, is_own, is_run_or_memory, is_refusal, RefusesWords, finished};
+
+use crate::ends::{End, Ended, ImageFault, WordFault};
+use crate::loading::{Loaded, first_machine, image_fits, load_file};
+use crate::running::run;
+use core_step::Machine;
+use host_edge::{Host, Sink, Source};
+use machine_state::{HostCall, RunEnd};
+use std::alloc::Global;
+
+/// The budget of steps.
+const BUDGET: u64 = 1_000_000_000_000;
+
+/// Any command line but `run` and a path.
+const NO_COMMAND: WordFault = WordFault { word: 0, kind: 15 };
+
+/// Any file that hasn't the one form of image.
+const NO_IMAGE: ImageFault = ImageFault {
+    number: 15,
+    place: 0,
+};
+
+fn path_fits(path: &str) -> bool
+    ensures { result ≡ path_fits_spec path.now }
+{
+    let bytes = path.as_bytes();
+    !bytes.starts_with(b"--") && !bytes.contains(&0) && !bytes.is_empty()
+}
+
+/// Whether the words are `run` and a path.
+fn words_fit(words: &[String]) -> bool
+    ensures { result ≡ words_fit_spec (map string_bytes words.now) }
+{
+    words.len() == 2 && words[0].as_str() == "run" && path_fits(&words[1])
+}
+
+fn path_in(words: &[String]) -> &str
+    requires { IsTrue (words_fit_spec (map string_bytes words.now)) }
+    ensures { result.now ≡ path_word (map string_bytes words.now) }
+{
+    words[1].as_str()
+}
+
+fn refused(end: End) -> Ended
+    requires { HasSignal end }
+    ensures { result ≡ record { status = status_of end; end = end; machine = None } }
+{
+    Ended {
+        status: end.status(),
+        end,
+        machine: None,
+    }
+}
+
+fn with_machine(end: End, machine: Machine) -> Ended
+    requires { HasSignal end }
+    ensures { result ≡ record { status = status_of end; end = end; machine = Some machine } }
+{
+    Ended {
+        status: end.status(),
+        end,
+        machine: Some(machine),
+    }
+}
+
+/// The end of a command by the end of its run. A machine that a failed call stopped isn't answered.
+fn finish(end: RunEnd, machine: Machine) -> Ended
+    requires { HasRunSignal end }
+    ensures { result ≡ finished end machine }
+{
+    match end {
+        RunEnd::Exit(code) => with_machine(End::Exit(code), machine),
+        RunEnd::Killed(signal) => with_machine(End::Killed(signal), machine),
+        RunEnd::Budget => with_machine(End::Budget, machine),
+        RunEnd::Host(call) => refused(End::Host(call)),
+    }
+}
+
+/// Runs an image, or refuses it.
+fn on_image<O: Sink, E: Sink>(alloc: Global, bytes: &[u8], out: &mut O, err: &mut E) -> Ended
+    ensures meets { (on : Outside) → on.out ≡ told (O.taken out.old) → on.err ≡ told (E.taken err.old)
+        → IsSome (O.taken out.old) → IsSome (E.taken err.old)
+        → MeetsImage BUDGET bytes.now on result
+        (record on { out = told (O.taken out.new); err = told (E.taken err.new) }) }
+    ensures ran { IsTrue (image_fits_spec bytes.now) → is_refusal result.end ≡ false }
+    ensures no_words { (fault : _) → result.end ≡ End.Words fault → ⊥ }
+    ensures status { result.status ≡ status_of result.end }
+    ensures no_machine { is_own result.end ≡ false → result.machine ≡ None }
+    ensures out_tells { is_some (O.taken out.new) ≡ is_some (O.taken out.old) }
+    ensures err_tells { is_some (E.taken err.new) ≡ is_some (E.taken err.old) }
+    ensures cause { IsCaused (failed_call result.end) (O.faults out.old) (O.faults out.new) (E.faults err.old) (E.faults err.new) }
+{
+    if !image_fits(bytes) {
+        return refused(End::Image(NO_IMAGE));
+    }
+    match first_machine(alloc, bytes) {
+        Ok(mut machine) => {
+            let end = run(&mut machine, BUDGET, out, err);
+            finish(end, machine)
+        }
+        Err(_) => refused(End::Memory),
+    }
+}
+
+/// Does what the words say: `run` and the path of a program loads it from the host and runs it.
+///
+/// `out` and `err` are the guest's output and error output. The program itself puts nothing on them. A run takes its memory before
+/// the first step.
+pub fn emulate<H: Host, S: Source, O: Sink, E: Sink>(
+    alloc: Global,
+    words: &[String],
+    host: &mut H,
+    input: &mut S,
+    out: &mut O,
+    err: &mut E,
+) -> Ended
+    // A run is the written machine's run, where the outside tells what it holds and was given.
+    ensures headline { IsSome (H.holds host.old) → IsSome (O.taken out.old) → IsSome (E.taken err.old)
+        → Meets BUDGET (map string_bytes words.now)
+        (outside_told (H.holds host.old) (S.left input.old) (O.taken out.old) (E.taken err.old)) result
+        (outside_told (H.holds host.new) (S.left input.new) (O.taken out.new) (E.taken err.new)) }
+    ensures complete { IsSome (H.holds host.old)
+        → IsTrue (words_fit_spec (map string_bytes words.now))
+        → IsImage (files_of (H.holds host.old) (path_word (map string_bytes words.now)))
+        → NoneRose (record { host = H.faults host.old; take = S.faults input.old; out = O.faults out.old; err = E.faults err.old })
+        (record { host = H.faults host.new; take = S.faults input.new; out = O.faults out.new; err = E.faults err.new })
+        → IsTrue (is_run_or_memory result.end) }
+
+    // The causes, whatever the outside tells.
+    ensures cause { IsCounted (failed_call result.end)
+        (record { host = H.faults host.old; take = S.faults input.old; out = O.faults out.old; err = E.faults err.old })
+        (record { host = H.faults host.new; take = S.faults input.new; out = O.faults out.new; err = E.faults err.new }) }
+    ensures words { RefusesWords (words_fit_spec (map string_bytes words.now)) result.end }
+    ensures too_many { 2 ^ 32 ≤ length words.now → result.end ≡ End.Memory }
+    ensures status { result.status ≡ status_of result.end }
+    ensures no_machine { is_own result.end ≡ false → result.machine ≡ None }
+
+    // No file is stored, no swap is opened, and no input is taken.
+    ensures host_kept { H.holds host.new ≡ H.holds host.old }
+    ensures swap_kept { H.opened host.new ≡ H.opened host.old }
+    ensures input_kept { S.left input.new ≡ S.left input.old }
+{
+    if words.len() > u32::MAX as usize {
+        return refused(End::Memory);
+    }
+    if !words_fit(words) {
+        return refused(End::Words(NO_COMMAND));
+    }
+    match load_file(alloc, path_in(words), host) {
+        Loaded::Whole(bytes) => on_image(alloc, &bytes, out, err),
+        Loaded::Long => refused(End::Image(NO_IMAGE)),
+        Loaded::Failed => refused(End::Host(HostCall::Load(1))),
+        Loaded::Memory => refused(End::Memory),
+    }
+}
