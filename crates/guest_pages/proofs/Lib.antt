@@ -8,3 +8,7 @@ pub mod Shows
 pub mod Counts
 pub mod Maps
 pub mod Protects
+pub mod Chains
+pub mod Files
+pub mod Marks
+pub mod Keeps

@@ -1,19 +1,23 @@
 -- Lemmas on a page that is mapped.
-use Rattle.std.proofs.Common.{◌≡◌, ℕ, ◌+◌, ◌/◌, ◌%◌, ◌<◌, ◌≤◌, List, [], ◌∷◌, ◌++◌, ◌^◌, Bool, true, false, cond, Option, Some, None, length, get_or, set, ◌==◌, refl, sym, ap, ◌∙◌, ⊎_elim, arith, ◌≢◌, is_some, count_by, nat_lt, ◌||◌, MatchOption}
-use Rattle.std.proofs.lemmas.List.{get_or_past, get_or_push, get_or_append_left, length-append}
+use Rattle.std.proofs.Common.{◌≡◌, ℕ, ◌+◌, ◌/◌, ◌%◌, ◌<◌, ◌≤◌, List, Bool, true, false, cond, Option, Some, None, length, get_or, ◌==◌, refl, sym, ap, ◌∙◌, ⊎_elim, arith, ◌≢◌, is_some, count_by, nat_lt, ◌||◌, MatchOption}
+use Rattle.std.proofs.lemmas.List.{get_or_past, length-set}
 use Rattle.std.proofs.lemmas.Bool.{cases_eq, cases_lt, eq-eqb, false≢true, lt-ltb}
 use Rattle.guest_pages.specs.declared.entry.Entry.{Entry}
 use Rattle.guest_pages.specs.declared.entry.Place.{Place}
 use Rattle.guest_pages.specs.declared.entry.Place.TheVariants.{Resident, Zeros, Swapped}
-use Rattle.guest_pages.specs.Entry.{is_resident, is_in_frame, place_byte, IsZeros}
+use Rattle.guest_pages.specs.declared.entry.Mark.TheVariants.{Fresh}
+use Rattle.guest_pages.specs.declared.lists.Lists.{Lists}
+use Rattle.guest_pages.specs.Lists.{AreListed}
+use Rattle.guest_pages.specs.Entry.{is_resident, is_in_frame, mark_in, place_byte, IsZeros}
 use Rattle.guest_pages.specs.Table.{Mapped, Table, away_at, with_entry}
-use Rattle.guest_pages.specs.Pages.{PagesValue, table_of, byte_of, mapped_count}
-use Rattle.guest_pages.specs.Changes.{AllResident, IsBlank, IsMapped}
-use Rattle.guest_pages.specs.Slots.{LacksPage, IsSeatOf, AreSound, AreShared, CanTake}
+use Rattle.guest_pages.specs.Pages.{PagesValue, table_of, byte_of, mark_of, mapped_count}
+use Rattle.guest_pages.specs.Changes.{AllResident, IsBlank, IsMapped, with_mark}
+use Rattle.guest_pages.specs.Slots.{LacksPage, IsSeatOf, AreSound, AreShared, CanTake, AreFiled, IsKept, list_of}
 use Rattle.guest_pages.proofs.Counts.{count_by_none, count_by_below}
 use Rattle.guest_pages.proofs.Seats.{seek_none, take_free}
-use Rattle.guest_pages.proofs.Tables.{table_at, table_none}
-use Rattle.guest_pages.proofs.Takes.{taken, entry_mapped, size_taken, table_taken, byte_taken, count_taken, frames_taken}
+use Rattle.guest_pages.proofs.Tables.{table_at, table_none, mapped_entry}
+use Rattle.guest_pages.proofs.Files.{free_there, full_there}
+use Rattle.guest_pages.proofs.Takes.{taken, entry_mapped, size_taken, table_taken, byte_taken, mark_taken, count_taken}
 
 -- a slot that can take the page and holds one holds that page
 pub taken_seat : (slots : List (Option Entry)) (page k : ℕ) (entry : Entry) → CanTake slots page k → get_or slots k None ≡ Some entry → IsSeatOf slots page k
@@ -32,13 +36,13 @@ free_lacks slots page k can is = λ i h. ⊎_elim
     (λ (other : i ≢ k). can.others i other)
     (cases_eq i k)
 
--- where a free slot was found there is one, and else all are used
-pub seat_or_full : (pages : PagesValue) (page : ℕ) (found : Option ℕ) → LacksPage pages.slots page
-    → MatchOption found (count_by is_some pages.slots ≡ length pages.slots) (λ k. (k < length pages.slots) × (get_or pages.slots k None ≡ None))
+-- where no slot holds the page, the first of the last list can take it, and where there is none all are used
+pub seat_or_full : (pages : PagesValue) (lists : Lists) (page : ℕ) (found : Option ℕ) → AreFiled pages.slots lists → LacksPage pages.slots page
+    → found ≡ get_or lists.heads.items (length pages.slots) None
     → MatchOption found ((table_of pages page ≡ None) × (mapped_count pages ≡ length pages.slots)) (CanTake pages.slots page)
 unfolding mapped_count
-seat_or_full pages page None lacks h = (table_none pages page lacks, h)
-seat_or_full pages page (Some k) lacks h = take_free pages.slots page k h.0 lacks h.1
+seat_or_full pages lists page None filed lacks is = (table_none pages page lacks, full_there pages.slots lists filed (sym is))
+seat_or_full pages lists page (Some k) filed lacks is = let there = free_there pages.slots lists k filed (sym is) in take_free pages.slots page k there.0 lacks there.1
 
 -- where a slot can take the page, the page is mapped or fewer are than there may be
 pub not_full : (pages : PagesValue) (page k : ℕ) → CanTake pages.slots page k → table_of pages page ≡ None → mapped_count pages ≡ length pages.slots → ⊥
@@ -49,13 +53,19 @@ not_full pages page k can none full = by_slot (get_or pages.slots k None) refl
     by_slot None is = let below : count_by is_some pages.slots < length pages.slots = count_by_below is_some pages.slots k None can.within (rw is refl) in omega arith
     by_slot (Some entry) is = let mapped = table_at pages page k entry (taken_seat pages.slots page k entry can is) is in cc
 
-zeros_byte : (place : Place) (swapped : List ℕ) (at : ℕ) → IsZeros place → place_byte swapped place at ≡ 0
+-- the bytes and the mark of a page of zeros
+pub zeros_byte : (place : Place) (swapped : List ℕ) (at : ℕ) → IsZeros place → place_byte swapped place at ≡ 0
 zeros_byte (Resident bytes mark) swapped at h = ⊎_elim
     (λ (within : at < length bytes). h.0 at 0 within)
     (λ (past : length bytes ≤ at). get_or_past bytes at 0 past)
     (cases_lt at (length bytes))
 zeros_byte Zeros swapped at h = refl
 zeros_byte Swapped swapped at h = absurd h
+
+zeros_mark : (place : Place) → IsZeros place → mark_in place ≡ cond (is_resident place) (Some Fresh) None
+zeros_mark (Resident bytes mark) h = rw h.1 refl
+zeros_mark Zeros h = refl
+zeros_mark Swapped h = absurd h
 
 zero_case : (b : Bool) (x y : ℕ) → x ≡ 0 → cond b x y ≡ cond b 0 y
 zero_case true x y h = h
@@ -77,6 +87,11 @@ module _ (pages : PagesValue) (k : ℕ) (entry : Entry) (can : CanTake pages.slo
       let same : Some (entry_mapped k before) ≡ Some mapped = sym some ∙ h in
       cc
 
+  apart_from : (other : ℕ) (mapped : Mapped) → other ≢ entry.page → table_of pages other ≡ Some mapped → mapped.slot ≢ k
+  apart_from other mapped apart h same =
+      let there = mapped_entry pages other mapped h in
+      apart (sym (can.here other (rw (sym same) there.1)))
+
   -- the pages where a page of zeros is mapped
   pub mapped_there : IsMapped pages (taken pages k entry) entry.page entry.perms.0
   mapped_there = record {
@@ -85,8 +100,11 @@ module _ (pages : PagesValue) (k : ℕ) (entry : Entry) (can : CanTake pages.slo
     table = table_taken pages k entry can;
     perms_are = refl;
     slot_stays = stays (get_or pages.slots k None) refl;
+    slot_within = rw (length-set pages.slots k (let o : Option Entry = Some entry in o)) can.within;
+    slot_apart = λ other mapped apart h. apart_from other mapped apart h;
     byte = λ swap i at.
         (byte_taken pages k entry can swap at ∙ zero_case (at / 4096 == entry.page) _ _ (zeros_byte entry.place (swap k) (at % 4096) zeros)) i;
+    marks = mark_taken pages k entry can ∙ ap (with_mark (mark_of pages) entry.page) (zeros_mark entry.place zeros);
     count = count_is (get_or pages.slots k None) refl;
   }
 
@@ -112,32 +130,32 @@ resident_mapped pages k free capacity entry can shares is same all page =
     in_case true k entry other resident h = rw resident refl
     in_case false k entry other resident h = h
 
--- the frames are shared as before where a slot's frame or a free one goes to its new page
-pub shared_taken : (slots : List (Option Entry)) (frames free free' capacity capacity' k : ℕ) (entry : Entry) (given : Bool) → k < length slots
-    → AreShared slots frames free capacity → is_resident entry.place ≡ given
-    → free' + cond given 1 0 ≡ free + cond (is_in_frame (get_or slots k None)) 1 0 → capacity' ≡ capacity
-    → AreShared (set slots k (Some entry)) frames free' capacity'
-shared_taken slots frames free free' capacity capacity' k entry given within shares is moved room =
-    let counts = frames_taken slots k entry within in
-    let given_is : free' + cond (is_resident entry.place) 1 0 ≡ free + cond (is_in_frame (get_or slots k None)) 1 0 = rw (← is) at moved in
-    record { shared = (let before = shares.shared in omega arith); room = rw room shares.room }
-
 blank_lacks : (slots : List (Option Entry)) → ((i : ℕ) → get_or slots i None ≡ None) → (page : ℕ) → LacksPage slots page
 blank_lacks slots blank page = λ i h. rw (blank i) refl
 
 -- slots of which none holds a page are sound
-pub blank_sound : (slots : List (Option Entry)) → ((i : ℕ) → get_or slots i None ≡ None) → length slots < 2 ^ 32 → AreSound slots
-blank_sound slots blank few = record {
+blank_sound : (slots : List (Option Entry)) → ((i : ℕ) → get_or slots i None ≡ None) → AreSound slots
+blank_sound slots blank = record {
   apart = λ i j page l within held. blank_lacks slots blank page j within;
   low = λ k page within held. absurd (false≢true (sym (blank_lacks slots blank page k within) ∙ held));
-  few = few;
 }
 
-pub blank_shared : (slots : List (Option Entry)) (frames free capacity : ℕ) → ((i : ℕ) → get_or slots i None ≡ None) → free ≡ frames → frames ≤ capacity
-    → AreShared slots frames free capacity
-blank_shared slots frames free capacity blank all room =
+-- what the pages keep holds of slots that are all free, all of them in the last list
+pub blank_kept : (slots : List (Option Entry)) (frames free capacity : ℕ) (lists : Lists) → ((i : ℕ) → get_or slots i None ≡ None) → free ≡ frames → frames ≤ capacity
+    → length lists.heads.items ≡ length slots + 1 → length lists.nexts.items ≡ length slots → AreListed lists (λ _. length slots) → IsKept slots frames free capacity lists
+blank_kept slots frames free capacity lists blank all room heads nexts listed =
     let none : count_by is_in_frame slots ≡ 0 = count_by_none is_in_frame slots None (λ i h. rw (blank i) refl) in
-    record { shared = omega arith; room = room }
+    record {
+      sound = blank_sound slots blank;
+      shares = record { shared = omega arith; room = room };
+      filed = record {
+        count = heads;
+        numbers = nexts;
+        listed = λ list h.
+            let there = listed list h in
+            record { numbers = there.numbers; is = there.is; has = λ k l. there.has k l ∙ ap (λ (home : ℕ). home == list) (sym (ap (λ (slot : Option Entry). list_of slot (length slots)) (blank k))) };
+      };
+    }
 
 -- pages of which no slot holds one
 pub blank_there : (pages : PagesValue) (frames most : ℕ) → ((i : ℕ) → get_or pages.slots i None ≡ None) → pages.frames ≡ frames → length pages.slots ≡ most
@@ -153,12 +171,3 @@ blank_there pages frames most blank frames_are pages_are = record {
 
 pub blank_resident : (pages : PagesValue) → ((i : ℕ) → get_or pages.slots i None ≡ None) → AllResident pages
 blank_resident pages blank page = rw (table_none pages page (blank_lacks pages.slots blank page)) refl
-
-pub blank_push : (slots : List (Option Entry)) (n : ℕ) → length slots ≡ n → ((i : ℕ) → get_or slots i None ≡ None) → (i : ℕ) → get_or (slots ++ None ∷ []) i None ≡ None
-blank_push slots n len blank i = ⊎_elim
-    (λ (within : i < length slots). get_or_append_left slots _ None i within ∙ blank i)
-    (λ (past : length slots ≤ i). ⊎_elim
-    (λ (here : i ≡ length slots). get_or_push slots None None i (sym here))
-    (λ (other : i ≢ length slots). get_or_past _ i None (rw (length-append slots (None ∷ [])) (omega arith)))
-    (cases_eq i (length slots)))
-    (cases_lt i (length slots))

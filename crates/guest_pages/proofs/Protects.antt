@@ -1,18 +1,25 @@
 -- Lemmas on a page whose permissions change.
-use Rattle.std.proofs.Common.{◌≡◌, ℕ, ◌/◌, ◌%◌, ◌<◌, List, Bool, true, false, cond, Option, Some, None, get_or, ◌==◌, refl, sym, ◌∙◌, ⊎_elim, ◌≢◌, IsSome, arith, ◌+◌, count_by, set}
+use Rattle.std.proofs.Common.{◌≡◌, ℕ, ap, add-zero, ◌/◌, ◌%◌, List, Bool, true, false, cond, Option, Some, None, get_or, ◌==◌, refl, sym, ◌∙◌, ⊎_elim, ◌≢◌, IsSome, set}
 use Rattle.std.proofs.lemmas.Bool.{cases_eq, eq-eqb, ne_eqb, false≢true}
-use Rattle.machine_state.specs.Memory.{Swap}
+use Rattle.machine_state.specs.Memory.{Swap, zeroed}
 use Rattle.machine_state.specs.declared.permissions.Perms.{Perms}
 use Rattle.guest_pages.specs.declared.entry.Entry.{Entry}
 use Rattle.std.specs.Option.{option_map}
-use Rattle.guest_pages.specs.Entry.{is_in_frame, is_resident}
+use Rattle.guest_pages.specs.declared.entry.Mark.{Mark}
+use Rattle.guest_pages.specs.declared.entry.Mark.TheVariants.{Fresh}
+use Rattle.guest_pages.specs.declared.entry.Place.{Place}
+use Rattle.guest_pages.specs.declared.entry.Place.TheVariants.{Resident, Zeros, Swapped}
+use Rattle.guest_pages.specs.declared.lists.Lists.{Lists}
+use Rattle.guest_pages.specs.Entry.{is_resident, mark_in, IsZeros, IsZeroedEntry, IsZeroedSlot}
 use Rattle.guest_pages.specs.Table.{Mapped, away_at}
-use Rattle.guest_pages.specs.Pages.{PagesValue, seat_byte, table_of, byte_of}
-use Rattle.guest_pages.specs.Changes.{AllResident, IsProtected, with_perms}
-use Rattle.guest_pages.specs.Slots.{LacksPage, IsSeatOf, AreSound, AreShared, CanTake}
-use Rattle.guest_pages.proofs.Seats.{seek_at, seat_at, take_seat, sound_taken}
+use Rattle.guest_pages.specs.Pages.{PagesValue, seat_byte, table_of, byte_of, mark_of, mapped_count}
+use Rattle.guest_pages.specs.Changes.{AllResident, IsProtected, IsUnmapped, IsZeroed, with_perms, with_mark}
+use Rattle.guest_pages.specs.Slots.{LacksPage, IsSeatOf, AreSound, CanTake, IsKept}
+use Rattle.guest_pages.proofs.Seats.{seek_at, seek_none, seat_at, take_seat}
 use Rattle.guest_pages.proofs.Tables.{table_at, table_none}
-use Rattle.guest_pages.proofs.Takes.{taken, entry_mapped, size_taken, table_taken, byte_taken, count_kept, frames_taken}
+use Rattle.guest_pages.proofs.Takes.{taken, entry_mapped, size_taken, table_taken, table_kept, byte_taken, mark_taken, mark_at, with_entry_same, with_mark_same, count_kept}
+use Rattle.guest_pages.proofs.Maps.{zeros_byte}
+use Rattle.guest_pages.proofs.Keeps.{kept_changed}
 
 pub byte_seated : (pages : PagesValue) (k : ℕ) (entry : Entry) (swap : Swap) (at : ℕ) → IsSeatOf pages.slots (at / 4096) k → get_or pages.slots k None ≡ Some entry
     → byte_of pages swap at ≡ seat_byte swap (seat_at k entry) (at % 4096)
@@ -42,6 +49,7 @@ module _ (pages : PagesValue) (page k : ℕ) (entry : Entry) (seat : IsSeatOf pa
     size = size_taken pages k (record entry { perms = perms });
     table = table_taken pages k (record entry { perms = perms }) can ∙ rw (← page_is, mapped) refl;
     byte = λ swap i at. byte_case swap at i;
+    marks = mark_taken pages k (record entry { perms = perms }) can ∙ with_mark_same (mark_of pages) entry.page (mark_in entry.place) (rw page_is (mark_at pages page k entry seat is));
     count = count_kept pages k (record entry { perms = perms }) entry seat.within is;
   }
 
@@ -55,18 +63,93 @@ pub protected_resident : (old new : PagesValue) (page perms : ℕ) → IsProtect
 protected_resident old new page perms protected all q =
     rw protected.table (perms_away (q == page) perms (table_of old page) (table_of old q) (all page) (all q))
 
--- slots stay sound, and frames shared, where a slot's page gets other permissions
-pub protected_sound : (slots : List (Option Entry)) (frames free capacity page k : ℕ) (entry : Entry) (perms : Perms) → IsSeatOf slots page k
-    → get_or slots k None ≡ Some entry → entry.page ≡ page → AreSound slots → AreShared slots frames free capacity
-    → AreSound (set slots k (Some (record entry { perms = perms }))) × AreShared (set slots k (Some (record entry { perms = perms }))) frames free capacity
-protected_sound slots frames free capacity page k entry perms seat is page_is sound shares =
-    let can : CanTake slots entry.page k = rw page_is (take_seat slots page k sound.apart seat) in
-    let low : entry.page < 0x800000000 = rw page_is (sound.low k page seat.within seat.here) in
-    let counts : count_by is_in_frame (set slots k (Some (record entry { perms = perms }))) + cond (is_resident entry.place) 1 0 ≡ count_by is_in_frame slots + cond (is_resident entry.place) 1 0 =
-    rw is at (frames_taken slots k (record entry { perms = perms }) seat.within) in (
-      sound_taken slots k (record entry { perms = perms }) can low sound,
-      record { shared = (let before = shares.shared in omega arith); room = shares.room },
-    )
+-- what the pages keep holds where a slot's page gets other permissions
+pub protected_kept : (slots : List (Option Entry)) (frames free capacity : ℕ) (lists : Lists) (page k : ℕ) (entry : Entry) (perms : Perms) → IsSeatOf slots page k
+    → get_or slots k None ≡ Some entry → entry.page ≡ page → IsKept slots frames free capacity lists
+    → IsKept (set slots k (Some (record entry { perms = perms }))) frames free capacity lists
+protected_kept slots frames free capacity lists page k entry perms seat is page_is kept =
+    kept_changed slots frames free capacity lists page k entry (record entry { perms = perms }) seat is page_is refl refl kept
 
 pub mapped_seat : (pages : PagesValue) (page : ℕ) → LacksPage pages.slots page → IsSome (table_of pages page) → ⊥
 mapped_seat pages page lacks mapped = false≢true (rw (table_none pages page lacks) at mapped)
+
+zero_case : (b : Bool) (x y : ℕ) → x ≡ 0 → cond b x y ≡ cond b 0 y
+zero_case true x y h = h
+zero_case false x y h = refl
+
+fresh_case : (old new : Place) → IsZeros new → is_resident new ≡ is_resident old → mark_in new ≡ option_map (λ _. Fresh) (mark_in old)
+fresh_case (Resident bytes mark) (Resident zeros other) h same = ap (λ (m : Mark). let o : Option Mark = Some m in o) h.1
+fresh_case Zeros Zeros h same = refl
+fresh_case Swapped Zeros h same = refl
+fresh_case (Resident bytes mark) Zeros h same = absurd (false≢true same)
+fresh_case Zeros (Resident zeros other) h same = absurd (false≢true (sym same))
+fresh_case Swapped (Resident zeros other) h same = absurd (false≢true (sym same))
+fresh_case old Swapped h same = absurd h
+
+module _ (pages : PagesValue) (page k : ℕ) (entry after : Entry) (seat : IsSeatOf pages.slots page k) (is : get_or pages.slots k None ≡ Some entry) (page_is : entry.page ≡ page)
+    (sound : AreSound pages.slots) (zeroes : IsZeroedEntry entry after) where
+  after_is : after.page ≡ page
+  after_is = zeroes.page ∙ page_is
+
+  can_take : CanTake pages.slots after.page k
+  can_take = rw after_is (take_seat pages.slots page k sound.apart seat)
+
+  table_is : table_of pages after.page ≡ Some (entry_mapped k after)
+  table_is = rw (after_is, zeroes.perms, zeroes.resident) (table_at pages page k entry seat is)
+
+  -- the pages where one is filled with zeros
+  pub zeroed_there : IsZeroed pages (taken pages k after) page
+  zeroed_there = record {
+    size = size_taken pages k after;
+    table = table_kept pages k after can_take table_is;
+    byte = λ swap i at.
+        (byte_taken pages k after can_take swap at
+        ∙ zero_case (at / 4096 == after.page) _ _ (zeros_byte after.place (swap k) (at % 4096) zeroes.zeros)
+        ∙ ap (λ (q : ℕ). cond (at / 4096 == q) 0 (byte_of pages swap at)) after_is) i;
+    marks =
+        mark_taken pages k after can_take
+        ∙ (λ i. with_mark (mark_of pages) (after_is i) (fresh_case entry.place after.place zeroes.zeros zeroes.resident i))
+        ∙ ap (λ (mark : Option Mark). with_mark (mark_of pages) page (option_map (λ _. Fresh) mark)) (sym (mark_at pages page k entry seat is));
+    count = count_kept pages k after entry seat.within is;
+  }
+
+pub zeroed_kept : (slots : List (Option Entry)) (frames free capacity : ℕ) (lists : Lists) (page k : ℕ) (entry after : Entry) → IsSeatOf slots page k
+    → get_or slots k None ≡ Some entry → entry.page ≡ page → IsZeroedEntry entry after → IsKept slots frames free capacity lists
+    → IsKept (set slots k (Some after)) frames free capacity lists
+zeroed_kept slots frames free capacity lists page k entry after seat is page_is zeroes kept =
+    kept_changed slots frames free capacity lists page k entry after seat is page_is zeroes.page zeroes.resident kept
+
+-- the slot after it was filled with zeros
+pub zeroed_slot : (old new : Option Entry) (entry : Entry) → old ≡ Some entry → IsZeroedSlot old new → (after : Entry) × (new ≡ Some after) × IsZeroedEntry entry after
+zeroed_slot None new entry is zeroes = cc
+zeroed_slot (Some old) None entry is zeroes = absurd zeroes
+zeroed_slot (Some old) (Some after) entry is zeroes = let same : old ≡ entry = cc in (after, refl, rw same at zeroes)
+
+none_away : (b : Bool) (other : Option Mapped) → away_at other ≡ None → away_at (cond b None other) ≡ None
+none_away true other h = refl
+none_away false other h = h
+
+-- the other pages stay in frames
+pub unmapped_resident : (old new : PagesValue) (page : ℕ) → IsUnmapped old new page → AllResident old → AllResident new
+unmapped_resident old new page unmapped all q = rw unmapped.table (none_away (q == page) (table_of old q) (all q))
+
+absent_byte : (pages : PagesValue) (page : ℕ) → LacksPage pages.slots page → (swap : Swap) (at : ℕ) → byte_of pages swap at ≡ zeroed (byte_of pages swap) page at
+unfolding byte_of
+absent_byte pages page lacks swap at = ⊎_elim
+    (λ (here : at / 4096 ≡ page). rw (eq-eqb (at / 4096) page here, here, seek_none 0 pages.slots page lacks) refl)
+    (λ (other : at / 4096 ≢ page). rw (ne_eqb (at / 4096) page other) refl)
+    (cases_eq (at / 4096) page)
+
+absent_mark : (pages : PagesValue) (page : ℕ) → LacksPage pages.slots page → mark_of pages page ≡ None
+unfolding mark_of
+absent_mark pages page lacks = rw (seek_none 0 pages.slots page lacks) refl
+
+-- a page that isn't mapped
+pub unmapped_absent : (pages : PagesValue) (page : ℕ) → LacksPage pages.slots page → IsUnmapped pages pages page
+unmapped_absent pages page lacks = record {
+  size = record { frames = refl; pages = refl };
+  table = sym (with_entry_same (table_of pages) page None (table_none pages page lacks));
+  byte = λ swap i at. absent_byte pages page lacks swap at i;
+  marks = sym (with_mark_same (mark_of pages) page None (absent_mark pages page lacks));
+  count = rw (table_none pages page lacks) (add-zero (mapped_count pages));
+}

@@ -107,7 +107,8 @@ seat_of slots page k apart within here = record {
       (cases_Bool (holds_page (get_or slots i None) page));
 }
 
-same_page : (o : Option Entry) (page q : ℕ) → holds_page o page ≡ true → holds_page o q ≡ true → page ≡ q
+-- the page that a slot holds is one
+pub same_page : (o : Option Entry) (page q : ℕ) → holds_page o page ≡ true → holds_page o q ≡ true → page ≡ q
 same_page None page q h l = absurd (false≢true h)
 same_page (Some entry) page q h l = eqb-true page entry.page h ∙ sym (eqb-true q entry.page l)
 
@@ -169,5 +170,54 @@ module _ (slots : List (Option Entry)) (k : ℕ) (entry : Entry) (can : CanTake 
         (λ (ik : i ≡ k). let same : page ≡ entry.page = eqb-true page entry.page (rw (put_here i ik) at hi) in rw same low)
         (λ (ik : i ≢ k). sound.low i page (rw len at l) (rw (put_off i ik) at hi))
         (cases_eq i k);
-    few = rw len sound.few;
   }
+
+-- slots of which none holds more than before stay sound
+pub sound_less : (slots other : List (Option Entry)) → length other ≡ length slots
+    → ((k page : ℕ) → holds_page (get_or other k None) page ≡ true → holds_page (get_or slots k None) page ≡ true) → AreSound slots → AreSound other
+sound_less slots other len less sound = record {
+  apart = λ i j page l lj hi. ⊎_elim
+      (λ (held : holds_page (get_or other j None) page ≡ true).
+      absurd (false≢true (sym (sound.apart i j page l (rw len at lj) (less i page hi)) ∙ less j page held)))
+      (λ free. free)
+      (cases_Bool (holds_page (get_or other j None) page));
+  low = λ k page l hk. sound.low k page (rw len at l) (less k page hk);
+}
+
+emptied_less : (slots : List (Option Entry)) (k i page : ℕ) → k < length slots → holds_page (get_or (set slots k None) i None) page ≡ true
+    → holds_page (get_or slots i None) page ≡ true
+emptied_less slots k i page within held = ⊎_elim
+    (λ (same : i ≡ k). absurd (false≢true (rw (same, get_or-set_same slots k None None within) at held)))
+    (λ (other : i ≢ k). rw (get_or-set_other slots k i None None other) at held)
+    (cases_eq i k)
+
+-- slots stay sound where one gives its page up
+pub sound_emptied : (slots : List (Option Entry)) (k : ℕ) → k < length slots → AreSound slots → AreSound (set slots k None)
+sound_emptied slots k within sound =
+    sound_less slots (set slots k None) (length-set slots k None) (λ i page held. emptied_less slots k i page within held) sound
+
+seek_emptied_from : (n : ℕ) (slots : List (Option Entry)) (k page : ℕ) → holds_page (get_or slots k None) page ≡ false → seek n (set slots k None) page ≡ seek n slots page
+seek_emptied_from n [] k page out = refl
+seek_emptied_from n (None ∷ slots) zero page out = refl
+seek_emptied_from n (Some entry ∷ slots) zero page out = rw out refl
+seek_emptied_from n (None ∷ slots) (suc k) page out = seek_emptied_from (n + 1) slots k page out
+seek_emptied_from n (Some entry ∷ slots) (suc k) page out =
+    ap (λ (t : Option Seat). cond (page == entry.page) (seat_at n entry) t) (seek_emptied_from (n + 1) slots k page out)
+
+-- the seats where a slot gives its page up
+pub seek_emptied : (slots : List (Option Entry)) (k page q : ℕ) → AreApart slots → IsSeatOf slots page k → seek 0 (set slots k None) q ≡ cond (q == page) None (seek 0 slots q)
+seek_emptied slots k page q apart seat = ⊎_elim
+    (λ (same : q ≡ page).
+    let can = take_seat slots page k apart seat in
+    let lacks : LacksPage (set slots k None) page = λ i h. ⊎_elim
+    (λ (here : i ≡ k). rw (here, get_or-set_same slots k None None seat.within) refl)
+    (λ (other : i ≢ k). rw (get_or-set_other slots k i None None other) (can.others i other))
+    (cases_eq i k) in
+    rw (eq-eqb q page same, same) (seek_none 0 (set slots k None) page lacks))
+    (λ (other : q ≢ page).
+    let out : holds_page (get_or slots k None) q ≡ false = ⊎_elim
+    (λ (held : holds_page (get_or slots k None) q ≡ true). absurd (other (same_page (get_or slots k None) q page held seat.here)))
+    (λ free. free)
+    (cases_Bool (holds_page (get_or slots k None) q)) in
+    rw (ne_eqb q page other) (seek_emptied_from 0 slots k q out))
+    (cases_eq q page)

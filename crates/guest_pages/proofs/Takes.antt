@@ -1,17 +1,18 @@
 -- Lemmas on the pages where a slot is given to an entry.
-use Rattle.std.proofs.Common.{◌≡◌, ℕ, ◌+◌, ◌/◌, ◌%◌, ◌<◌, List, Bool, true, false, cond, Option, Some, None, length, get_or, set, ◌==◌, refl, sym, ap, ◌∙◌, arith, is_some, count_by, ⊎_elim, ◌≢◌}
+use Rattle.std.proofs.Common.{◌≡◌, ℕ, ◌+◌, ◌/◌, ◌%◌, ◌<◌, List, Bool, true, false, cond, Option, Some, None, length, get_or, set, ◌==◌, refl, sym, ap, ◌∙◌, arith, add-zero, is_some, count_by, ⊎_elim, ◌≢◌}
 use Rattle.std.proofs.lemmas.Bool.{cases_eq, eq-eqb, ne_eqb}
-use Rattle.std.specs.Option.{option_map}
+use Rattle.std.specs.Option.{option_map, option_and_then}
 use Rattle.std.proofs.lemmas.List.{length-set}
 use Rattle.std.proofs.lemmas.List.Sums.{sum_by-set}
 use Rattle.machine_state.specs.Memory.{Swap}
 use Rattle.guest_pages.specs.declared.entry.Entry.{Entry}
-use Rattle.guest_pages.specs.Entry.{is_resident, is_in_frame}
+use Rattle.guest_pages.specs.Entry.{is_resident, is_in_frame, mark_in}
+use Rattle.guest_pages.specs.declared.entry.Mark.{Mark}
 use Rattle.guest_pages.specs.Table.{Mapped, Table, with_entry}
-use Rattle.guest_pages.specs.Pages.{PagesValue, Seat, mapped_of, table_of, seat_byte, byte_of, mapped_count}
-use Rattle.guest_pages.specs.Changes.{KeepsSize}
-use Rattle.guest_pages.specs.Slots.{CanTake, AreShared}
-use Rattle.guest_pages.proofs.Seats.{seat_at, seek_taken}
+use Rattle.guest_pages.specs.Pages.{PagesValue, Seat, mapped_of, table_of, seat_byte, byte_of, mark_of, mapped_count}
+use Rattle.guest_pages.specs.Changes.{KeepsSize, IsUnmapped, Marks, with_mark}
+use Rattle.guest_pages.specs.Slots.{CanTake, IsSeatOf, AreApart, AreShared}
+use Rattle.guest_pages.proofs.Seats.{seat_at, seek_at, seek_taken, seek_emptied}
 
 abbrev pub taken : PagesValue → ℕ → Entry → PagesValue
 taken pages k entry = record { frames = pages.frames; slots = set pages.slots k (Some entry) }
@@ -81,3 +82,50 @@ shared_kept slots frames free capacity k entry within before after shares =
 pub count_kept : (pages : PagesValue) (k : ℕ) (entry before : Entry) → k < length pages.slots → get_or pages.slots k None ≡ Some before
     → mapped_count (taken pages k entry) ≡ mapped_count pages
 count_kept pages k entry before within is = let counts : mapped_count (taken pages k entry) + 1 ≡ mapped_count pages + 1 = rw is at (count_taken pages k entry within) in omega arith
+
+mark_cond : (b : Bool) (x y : Option Seat) → option_and_then (λ seat. mark_in seat.entry.place) (cond b x y)
+    ≡ cond b (option_and_then (λ seat. mark_in seat.entry.place) x) (option_and_then (λ seat. mark_in seat.entry.place) y)
+mark_cond true x y = refl
+mark_cond false x y = refl
+
+pub mark_taken : (pages : PagesValue) (k : ℕ) (entry : Entry) → CanTake pages.slots entry.page k
+    → mark_of (taken pages k entry) ≡ with_mark (mark_of pages) entry.page (mark_in entry.place)
+unfolding mark_of
+mark_taken pages k entry can = λ i page.
+    (ap (option_and_then (λ seat. mark_in seat.entry.place)) (seek_taken pages.slots k entry page can) ∙ mark_cond (page == entry.page) _ _) i
+
+pub mark_at : (pages : PagesValue) (page k : ℕ) (entry : Entry) → IsSeatOf pages.slots page k → get_or pages.slots k None ≡ Some entry → mark_of pages page ≡ mark_in entry.place
+unfolding mark_of
+mark_at pages page k entry seat is = ap (option_and_then (λ seat. mark_in seat.entry.place)) (seek_at pages.slots page k entry seat is)
+
+same_mark : (marks : Marks) (page at : ℕ) (mark : Option Mark) → marks page ≡ mark → with_mark marks page mark at ≡ marks at
+same_mark marks page at mark is = ⊎_elim
+    (λ (same : at ≡ page). rw (eq-eqb at page same, same) (sym is))
+    (λ (other : at ≢ page). rw (ne_eqb at page other) refl)
+    (cases_eq at page)
+
+-- marks with the one that they have
+pub with_mark_same : (marks : Marks) (page : ℕ) (mark : Option Mark) → marks page ≡ mark → with_mark marks page mark ≡ marks
+with_mark_same marks page mark is = λ i at. same_mark marks page at mark is i
+
+abbrev pub emptied : PagesValue → ℕ → PagesValue
+emptied pages k = record { frames = pages.frames; slots = set pages.slots k None }
+
+-- the pages where a slot gives its page up
+pub emptied_there : (pages : PagesValue) (page k : ℕ) (entry : Entry) → AreApart pages.slots → IsSeatOf pages.slots page k → get_or pages.slots k None ≡ Some entry
+    → IsUnmapped pages (emptied pages k) page
+unfolding table_of byte_of mark_of mapped_count
+emptied_there pages page k entry apart seat is = record {
+  size = record { frames = refl; pages = length-set pages.slots k None };
+  table = λ i q. (ap (option_map mapped_of) (seek_emptied pages.slots k page q apart seat) ∙ map_cond mapped_of (q == page) _ _) i;
+  byte = λ swap i at.
+      (ap (λ (seat : Option Seat). seat_byte swap seat (at % 4096)) (seek_emptied pages.slots k page (at / 4096) apart seat) ∙ byte_cond swap (at / 4096 == page) _ _ (at % 4096)) i;
+  marks = λ i q. (ap (option_and_then (λ seat. mark_in seat.entry.place)) (seek_emptied pages.slots k page q apart seat) ∙ mark_cond (q == page) _ _) i;
+  count =
+      let counts : count_by is_some (set pages.slots k None) + 1 ≡ count_by is_some pages.slots + 0 = rw is at (sum_by-set (λ o. cond (is_some o) 1 0) pages.slots k None None seat.within) in
+      rw (seek_at pages.slots page k entry seat is) (omega arith);
+}
+
+pub frames_emptied : (slots : List (Option Entry)) (k : ℕ) → k < length slots
+    → count_by is_in_frame (set slots k None) + cond (is_in_frame (get_or slots k None)) 1 0 ≡ count_by is_in_frame slots
+frames_emptied slots k within = (let counts = sum_by-set (λ o. cond (is_in_frame o) 1 0) slots k None None within in counts) ∙ add-zero (count_by is_in_frame slots)

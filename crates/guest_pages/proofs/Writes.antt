@@ -1,5 +1,6 @@
 -- Lemmas on pages of which a part was written.
-use Rattle.std.proofs.Common.{◌≡◌, ℕ, ◌+◌, ◌-◌, ◌/◌, ◌%◌, ◌<◌, ◌≤◌, List, [], Bool, true, false, cond, Option, Some, None, length, get_or, set, ◌==◌, refl, sym, ap, ◌∙◌, ⊎_elim, arith, take, slice_range, IfSome}
+use Rattle.std.proofs.Common.{◌≡◌, ℕ, ◌+◌, ◌-◌, ◌/◌, ◌%◌, ◌<◌, ◌≤◌, List, [], Bool, true, false, cond, Option, Some, None, length, get_or, set, ◌==◌, refl, sym, ap, ◌∙◌, ⊎_elim, arith, take, slice_range, IfSome, ◌≢◌}
+use Rattle.std.proofs.lemmas.List.{length-take-le}
 use Rattle.std.proofs.lemmas.Bool.{cases_eq, eq-eqb, ne_eqb, false≢true}
 use Rattle.machine_state.specs.declared.kinds.Kind.{Kind}
 use Rattle.machine_state.specs.Memory.{Swap, written, miss_at, is_noncanonical}
@@ -8,16 +9,21 @@ use Rattle.guest_pages.specs.declared.entry.Entry.{Entry}
 use Rattle.guest_pages.specs.declared.entry.Mark.{Mark}
 use Rattle.guest_pages.specs.declared.entry.Place.{Place}
 use Rattle.guest_pages.specs.declared.entry.Place.TheVariants.{Resident, Zeros, Swapped}
-use Rattle.guest_pages.specs.Entry.{slot_frame, entry_with, is_resident, is_in_frame, place_with, place_marked}
+use Rattle.guest_pages.specs.Entry.{slot_frame, entry_with, is_resident, is_in_frame, mark_in, place_with, place_marked}
 use Rattle.guest_pages.specs.Table.{blocked, away_at, perms_in}
-use Rattle.guest_pages.specs.Pages.{PagesValue, table_of, byte_of, lent}
-use Rattle.guest_pages.specs.Changes.{IsWritten}
-use Rattle.guest_pages.specs.Slots.{LacksPage, IsSeatOf, CanTake, AreSound, AreShared}
-use Rattle.guest_pages.proofs.Seats.{seek_at, entry_there, take_seat, sound_taken}
+use Rattle.guest_pages.specs.Pages.{PagesValue, table_of, byte_of, mark_of, lent}
+use Rattle.guest_pages.specs.Changes.{IsWritten, Marks, with_mark, written_marks}
+use Rattle.guest_pages.specs.Slots.{LacksPage, IsSeatOf, CanTake, AreSound, IsKept}
+use Rattle.guest_pages.proofs.Seats.{seek_at, entry_there, take_seat}
 use Rattle.guest_pages.proofs.Tables.{table_at, table_none}
-use Rattle.guest_pages.proofs.Takes.{taken, size_taken, byte_taken, table_kept, shared_kept, count_kept}
+use Rattle.guest_pages.proofs.Takes.{taken, size_taken, byte_taken, mark_taken, mark_at, table_kept, count_kept}
 use Rattle.guest_pages.proofs.Walks.{ready_here}
 use Rattle.machine_state.specs.declared.kinds.Miss.TheVariants.{Away, NonCanonical, Unmapped}
+use Rattle.guest_pages.specs.declared.lists.Lists.{Lists}
+use Rattle.guest_pages.specs.declared.entry.Mark.TheVariants.{Written}
+use Rattle.guest_pages.proofs.Marks.{touches_within, written_marks_on, written_marks_none}
+use Rattle.guest_pages.proofs.Keeps.{kept_changed}
+use Rattle.machine_state.proofs.MemoryLemmas.{length_slice}
 use Rattle.guest_pages.proofs.Puts.{get_or-put_at, test_there, test_elsewhere}
 
 -- slot k holds the page of an address in a frame
@@ -89,7 +95,7 @@ byte_at : (pages : PagesValue) (addr k : ℕ) (held : IsHeld pages addr k) (swap
 unfolding byte_of
 byte_at pages addr k held swap at same = rw (← same, seek_at pages.slots (addr / 4096) k held.entry held.seat held.is, held.place_is) refl
 
-module _ (pages : PagesValue) (addr k : ℕ) (held : IsHeld pages addr k) (sound : AreSound pages.slots) (other : List ℕ) (fits : addr % 4096 + length other ≤ 4096) where
+module _ (pages : PagesValue) (addr k : ℕ) (held : IsHeld pages addr k) (sound : AreSound pages.slots) (other : List ℕ) (some : 0 < length other) (fits : addr % 4096 + length other ≤ 4096) where
   can : CanTake pages.slots held.entry.page k
   can = rw held.page_is (take_seat pages.slots (addr / 4096) k sound.apart held.seat)
 
@@ -114,37 +120,51 @@ module _ (pages : PagesValue) (addr k : ℕ) (held : IsHeld pages addr k) (sound
       ∙ rw (test, test_elsewhere addr at (length other) fits there) refl)
       (cases_eq (addr / 4096) (at / 4096))
 
+  marks_at : (page : ℕ) → with_mark (mark_of pages) held.entry.page (Some Written) page ≡ written_marks (mark_of pages) addr (length other) page
+  marks_at page = ⊎_elim
+      (λ (same : page ≡ held.entry.page).
+      let here : page ≡ addr / 4096 = same ∙ held.page_is in
+      let mark : mark_of pages (addr / 4096) ≡ Some held.mark = mark_at pages (addr / 4096) k held.entry held.seat held.is ∙ rw held.place_is refl in
+      rw (eq-eqb page held.entry.page same, touches_within addr (length other) page some fits, eq-eqb page (addr / 4096) here, here, mark) refl)
+      (λ (apart : page ≢ held.entry.page).
+      let off : page ≢ addr / 4096 = λ e. apart (e ∙ sym held.page_is) in
+      rw (ne_eqb page held.entry.page apart, touches_within addr (length other) page some fits, ne_eqb page (addr / 4096) off) refl)
+      (cases_eq page held.entry.page)
+
+  marks_are : mark_of (taken pages k (entry_with held.entry (addr % 4096) other)) ≡ written_marks (mark_of pages) addr (length other)
+  marks_are =
+      mark_taken pages k (entry_with held.entry (addr % 4096) other) can
+      ∙ ap (with_mark (mark_of pages) held.entry.page) (ap (λ (place : Place). mark_in (place_with (place_marked place) (addr % 4096) other)) held.place_is)
+      ∙ (λ i page. marks_at page i)
+
   -- the pages as they are once a part that was lent is written
   pub written_there : IsWritten pages (lent pages addr other) addr other
   written_there = rw (lent_at pages addr k held.entry other held.seat held.is) (record {
     size = size_taken pages k (entry_with held.entry (addr % 4096) other);
     table = table_same;
     byte = λ swap i at. byte_case swap at i;
+    marks = marks_are;
     count = count_kept pages k (entry_with held.entry (addr % 4096) other) held.entry held.seat.within held.is;
   })
 
+stays : (place : Place) (at : ℕ) (other : List ℕ) → is_resident (place_with (place_marked place) at other) ≡ is_resident place
+stays (Resident bytes mark) at other = refl
+stays Zeros at other = refl
+stays Swapped at other = refl
+
 -- what the pages keep of their slots holds whatever is written to the part that was lent
-pub lent_sound : (slots : List (Option Entry)) (frames free capacity page k at : ℕ) (entry : Entry) (other : List ℕ) → IsSeatOf slots page k
-    → get_or slots k None ≡ Some entry → entry.page ≡ page → is_resident entry.place ≡ true → AreSound slots → AreShared slots frames free capacity
-    → AreSound (set slots k (Some (entry_with entry at other))) × AreShared (set slots k (Some (entry_with entry at other))) frames free capacity
-lent_sound slots frames free capacity page k at entry other seat is page_is resident sound shares =
-    let can : CanTake slots entry.page k = rw page_is (take_seat slots page k sound.apart seat) in
-    let low : entry.page < 0x800000000 = rw page_is (sound.low k page seat.within seat.here) in
-    let before : is_in_frame (get_or slots k None) ≡ true = rw is resident in (
-      sound_taken slots k (entry_with entry at other) can low sound,
-      shared_kept slots frames free capacity k (entry_with entry at other) seat.within before (stays entry.place resident) shares,
-    )
-  where
-    stays : (place : Place) → is_resident place ≡ true → is_resident (place_with (place_marked place) at other) ≡ true
-    stays (Resident bytes mark) h = refl
-    stays Zeros h = h
-    stays Swapped h = h
+pub lent_kept : (slots : List (Option Entry)) (frames free capacity : ℕ) (lists : Lists) (page k at : ℕ) (entry : Entry) (other : List ℕ) → IsSeatOf slots page k
+    → get_or slots k None ≡ Some entry → entry.page ≡ page → IsKept slots frames free capacity lists
+    → IsKept (set slots k (Some (entry_with entry at other))) frames free capacity lists
+lent_kept slots frames free capacity lists page k at entry other seat is page_is kept =
+    kept_changed slots frames free capacity lists page k entry (entry_with entry at other) seat is page_is refl (stays entry.place at other) kept
 
 pub written_nothing : (pages : PagesValue) (addr : ℕ) → IsWritten pages pages addr []
 written_nothing pages addr = record {
   size = record { frames = refl; pages = refl };
   table = refl;
   byte = λ swap. sym (written_none (byte_of pages swap) addr);
+  marks = sym (written_marks_none (mark_of pages) addr);
   count = refl;
 }
 
@@ -158,5 +178,12 @@ writes_on old mid new addr bytes from end h l first second = record {
       second.byte swap
       ∙ ap (λ (f : ℕ → ℕ). written f (addr + from) (slice_range bytes from end)) (first.byte swap)
       ∙ written_on (byte_of old swap) addr bytes from end h l;
+  marks =
+      let front : length (take from bytes) ≡ from = length-take-le from bytes (omega arith) in
+      let part : length (slice_range bytes from end) ≡ end - from = length_slice bytes from end h l in
+      let whole : length (take end bytes) ≡ end = length-take-le end bytes l in
+      second.marks
+      ∙ ap (λ (marks : Marks). written_marks marks (addr + from) (length (slice_range bytes from end))) first.marks
+      ∙ rw (front, part, whole) (written_marks_on (mark_of old) addr from end h);
   count = second.count ∙ first.count;
 }

@@ -1,5 +1,5 @@
 -- A mapped page, and where its bytes are.
-use Rattle.std.specs.Prelude.{ℕ, List, Bool, true, false, Option, Some, None, slice_index, ◌==◌, ◌≡◌, All, if◌then◌else◌}
+use Rattle.std.specs.Prelude.{ℕ, List, Bool, true, false, Option, Some, None, IsSomeAnd, slice_index, ◌==◌, ◌≡◌, All, if◌then◌else◌}
 use Rattle.machine_state.specs.Memory.{permits}
 use Rattle.machine_state.specs.declared.kinds.Kind.{Kind}
 use Rattle.machine_state.specs.declared.permissions.Perms.{Perms}
@@ -88,3 +88,14 @@ IsZeros Swapped = ⊥
 abbrev pub slot_protected : Option Entry → Perms → Option Entry
 slot_protected None perms = None
 slot_protected (Some entry) perms = Some (record entry { perms = perms })
+
+-- an entry of the same page and permissions, in a frame or not as before, that is zeros
+pub record IsZeroedEntry (old new : Entry) : Type 0 where
+  pub page : new.page ≡ old.page
+  pub perms : new.perms ≡ old.perms
+  pub resident : is_resident new.place ≡ is_resident old.place
+  pub zeros : IsZeros new.place
+
+abbrev pub IsZeroedSlot : Option Entry → Option Entry → Type 0
+IsZeroedSlot None new = new ≡ None
+IsZeroedSlot (Some old) new = IsSomeAnd new (IsZeroedEntry old)

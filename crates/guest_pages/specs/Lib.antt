@@ -6,5 +6,6 @@ pub mod EntryLends
 pub mod Table
 pub mod Pages
 pub mod Changes
+pub mod Lists
 pub mod Slots
 pub mod PagesLends

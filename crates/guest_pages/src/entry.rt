@@ -2,7 +2,7 @@
 ghost use Rattle.std.specs.Prelude.{◌≡◌, ◌≤◌, ◌+◌, length, slice_range, true, is_some, None, All, IfSome};
 ghost use Rattle.std.specs.Borrow.{sem};
 ghost use Rattle.std.specs.Option.{option_copied};
-ghost use Rattle.guest_pages.specs.Entry.{is_resident, place_marked, place_frame, holds_page, slot_permits, slot_frame, is_in_frame, IsZeros, slot_protected};
+ghost use Rattle.guest_pages.specs.Entry.{is_resident, place_marked, place_frame, holds_page, slot_permits, slot_frame, is_in_frame, IsZeros, IsZeroedSlot, slot_protected};
 ghost use Rattle.guest_pages.specs.EntryLends.{LendsPlace, LendsEntry, LendsSlot};
 
 use crate::frame::Frame;
@@ -37,6 +37,20 @@ impl Place {
         match self {
             Place::Resident(_, mark) => *mark = Mark::Written,
             Place::Zeros | Place::Swapped => {}
+        }
+    }
+
+    fn zero(&mut self)
+        ensures resident { is_resident self.new ≡ is_resident self.old }
+        ensures zeros { IsZeros self.new }
+    {
+        match self {
+            Place::Resident(frame, mark) => {
+                frame.clear();
+                *mark = Mark::Fresh;
+            }
+            Place::Zeros => {}
+            Place::Swapped => *self = Place::Zeros,
         }
     }
 
@@ -172,6 +186,16 @@ pub(crate) fn protect(slot: &mut Option<Entry>, perms: Perms)
 {
     match slot {
         Some(entry) => entry.perms = perms,
+        None => {}
+    }
+}
+
+// Fills a slot's page with zeros.
+pub(crate) fn zero(slot: &mut Option<Entry>)
+    ensures { IsZeroedSlot slot.old slot.new }
+{
+    match slot {
+        Some(entry) => entry.place.zero(),
         None => {}
     }
 }

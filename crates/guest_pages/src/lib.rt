@@ -3,6 +3,7 @@
 
 mod entry;
 mod frame;
+mod lists;
 mod pages;
 
 pub use entry::{Entry, Mark, Place};

@@ -1,15 +1,16 @@
 //! The pages of guest memory.
-ghost use Rattle.std.specs.Prelude.{◌≡◌, ◌<◌, ◌≤◌, ◌+◌, length, slice_index_or, MatchOption, None, Some, is_some, count_by, false};
+ghost use Rattle.std.specs.Prelude.{◌≡◌, ◌<◌, ◌≤◌, ◌+◌, length, slice_index_or, None, Some, true, is_some};
 ghost use Rattle.std.specs.Prelude.{◌-◌, ◌%◌, ◌||◌, nat_lt, vec_len, if◌then◌else◌};
 ghost use Rattle.std.specs.Vec.{vec_capacity};
 ghost use Rattle.guest_pages.specs.Entry.{is_in_frame};
 ghost use Rattle.std.specs.Option.{option_map};
 ghost use Rattle.machine_state.specs.declared.kinds.Miss.TheVariants.{Away};
 ghost use Rattle.machine_state.specs.Memory.{miss_at, or_else};
-ghost use Rattle.guest_pages.specs.Slots.{LacksPage, IsSeatOf};
+ghost use Rattle.guest_pages.specs.Slots.{bucket_of, list_of as home_of};
 
-use crate::entry::{Entry, blank, frame_of, grants, holds, lend, protect, release};
+use crate::entry::{Entry, blank, frame_of, grants, holds, lend, protect, release, zero};
 use crate::frame::Frame;
+use crate::lists::{Lists, vacant};
 use machine_state::{Kind, Miss, Perms};
 use std::alloc::{AllocError, Global};
 use std::marker::Model;
@@ -18,36 +19,13 @@ use std::marker::Model;
 #[derive(Clone, Copy, Debug, PartialEq, Eq)]
 pub struct Full;
 
-// The slot that holds a page.
-fn find(slots: &[Option<Entry>], page: u64) -> Option<usize>
-    ensures { MatchOption result (LacksPage slots.now page) (IsSeatOf slots.now page) }
-{
-    for (k, slot) in slots.iter().enumerate() {
-        if holds(slot, page) {
-            return Some(k);
-        }
-    }
-    None
-}
-
-// The first slot that holds no page.
-fn find_free(slots: &[Option<Entry>]) -> Option<usize>
-    ensures { MatchOption result (count_by is_some slots.now ≡ length slots.now) (λ k. (k < length slots.now) × (slice_index_or slots.now k None ≡ None)) }
-{
-    for (k, slot) in slots.iter().enumerate() {
-        if slot.is_none() {
-            return Some(k);
-        }
-    }
-    None
-}
-
 /// The pages of a guest: at most as many are mapped as there are slots, and at most as many of them are in frames as
 /// there are frames. All memory is taken by `new`.
 #[derive(Drop)]
 pub struct Pages {
     frames: u32,
     slots: Vec<Option<Entry>>,
+    lists: Lists,
     free: Vec<Frame>,
 }
 
@@ -55,13 +33,13 @@ impl Model for Pages {
     ghost use Rattle.std.specs.Prelude.{vec_len};
     ghost use Rattle.std.specs.Vec.{vec_capacity};
     ghost use Rattle.guest_pages.specs.Pages.{PagesValue};
-    ghost use Rattle.guest_pages.specs.Slots.{AreSound, AreShared};
+    ghost use Rattle.guest_pages.specs.Slots.{IsKept};
 
     ghost Value = { PagesValue };
 
     ghost view = { λ pages. record { frames = pages.frames; slots = pages.slots.items } };
 
-    ghost invariant = { λ pages. AreSound pages.slots.items × AreShared pages.slots.items pages.frames (vec_len pages.free) (vec_capacity pages.free) };
+    ghost invariant = { λ pages. IsKept pages.slots.items pages.frames (vec_len pages.free) (vec_capacity pages.free) pages.lists };
 }
 
 impl Pages {
@@ -71,7 +49,7 @@ impl Pages {
     ghost use Rattle.machine_state.specs.Memory.{first_miss, miss_at};
     ghost use Rattle.guest_pages.specs.Table.{perms_in, first_away, blocked, answer_of};
     ghost use Rattle.guest_pages.specs.Pages.{table_of, mapped_count, resident_count, lent};
-    ghost use Rattle.guest_pages.specs.Changes.{AllResident, IsBlank, IsShown, IsWritten, IsMapped, IsProtected};
+    ghost use Rattle.guest_pages.specs.Changes.{AllResident, IsBlank, IsShown, IsWritten, IsMapped, IsUnmapped, IsProtected, IsZeroed};
     ghost use Rattle.guest_pages.specs.Slots.{LacksPage, IsSeatOf, IsGranted, CanTake, IsWalked};
     ghost use Rattle.guest_pages.specs.Entry.{away_slot_of};
     ghost use Rattle.guest_pages.specs.PagesLends.{LendsPages};
@@ -83,10 +61,8 @@ impl Pages {
         ensures blank { IfOk result (λ new. IsBlank new frames pages) }
         ensures resident { IfOk result AllResident }
     {
-        let mut slots = Vec::with_capacity(alloc, pages as usize)?;
-        for _ in 0..pages {
-            slots.push_reserved(None);
-        }
+        let slots = vacant(alloc, pages as usize)?;
+        let lists = Lists::new(alloc, pages as usize + 1, pages as usize, pages)?;
         let mut free = Vec::with_capacity(alloc, frames as usize)?;
         for _ in 0..frames {
             free.push_reserved(Frame::new(alloc)?);
@@ -94,24 +70,32 @@ impl Pages {
         Ok(Pages {
             frames,
             slots,
+            lists,
             free,
         })
     }
 
     // The slot of a page.
-    fn seat(&self, page: u64) -> Option<usize>
+    fn seat(&self, page: u64) -> Option<u32>
         ensures { MatchOption result (LacksPage self.now.slots page) (IsSeatOf self.now.slots page) }
     {
-        find(&self.slots, page)
+        let mut at = self.lists.first(bucket(page, self.slots.len()));
+        while let Some(k) = at {
+            if holds(&self.slots[k as usize], page) {
+                return Some(k);
+            }
+            at = self.lists.next(k);
+        }
+        None
     }
 
     // The slot of the page at an address, where the access to that byte is allowed.
-    fn locate(&self, addr: u64, kind: Kind) -> Result<usize, Miss>
+    fn locate(&self, addr: u64, kind: Kind) -> Result<u32, Miss>
         ensures { MatchResult result (IsGranted self.now kind addr) (λ miss. miss_at (perms_in (table_of self.now)) kind addr ≡ Some miss) }
     {
         match self.seat(addr / 4096) {
             Some(k) => {
-                if grants(&self.slots[k], kind) {
+                if grants(&self.slots[k as usize], kind) {
                     Ok(k)
                 } else {
                     Err(Miss::Denied(addr))
@@ -122,13 +106,13 @@ impl Pages {
     }
 
     // The slot of a page that is away, by its own slot.
-    fn away_slot(&self, k: usize) -> Option<u32>
-        requires there { k < length self.now.slots }
+    fn away_slot(&self, k: u32) -> Option<u32>
+        requires { k < length self.now.slots }
         ensures { result ≡ away_slot_of (slice_index_or self.now.slots k None) k }
     {
-        match frame_of(&self.slots[k]) {
+        match frame_of(&self.slots[k as usize]) {
             Some(_) => None,
-            None => Some(k as u32),
+            None => Some(k),
         }
     }
 
@@ -184,10 +168,21 @@ impl Pages {
         ensures bytes { IfOk result (λ shown. IsShown self.now addr len shown.now) }
     {
         let k = self.locate(addr, kind)?;
-        match frame_of(&self.slots[k]) {
+        match frame_of(&self.slots[k as usize]) {
             Some(frame) => Ok(frame.part((addr % 4096) as usize, len)),
-            None => Err(Miss::Away(k as u32)),
+            None => Err(Miss::Away(k)),
         }
+    }
+
+    /// Lends the bytes from `addr` on, within one page, to be written. The page counts as written.
+    pub fn lend(&mut self, addr: u64, len: usize) -> Result<&mut [u8], Miss>
+        requires some { 0 < len }
+        requires one_page { addr % 4096 + len ≤ 4096 }
+        ensures len { IfOk result (λ part. length part.now ≡ len) }
+        ensures answer { MatchResult result (λ _. blocked (table_of self.old) Kind.Write addr len ≡ None) (λ miss. blocked (table_of self.old) Kind.Write addr len ≡ Some miss) }
+    {
+        self.ready(addr, len as u64, Kind::Write)?;
+        Ok(self.lend_ready(addr, len))
     }
 
     /// Lends the bytes from `addr` on, within one page that is ready to be written. The page counts as written.
@@ -201,7 +196,7 @@ impl Pages {
     {
         match self.seat(addr / 4096) {
             Some(k) => {
-                let slot = &mut self.slots[k];
+                let slot = &mut self.slots[k as usize];
                 lend(slot, (addr % 4096) as usize, len)
             }
             None => unreachable!(),
@@ -272,29 +267,45 @@ impl Pages {
     }
 
     // The slot of a page, or else a free one.
-    fn seat_for(&self, page: u64) -> Option<usize>
+    fn seat_for(&self, page: u64) -> Option<u32>
         ensures { MatchOption result ((table_of self.now page ≡ None) × (mapped_count self.now ≡ length self.now.slots)) (CanTake self.now.slots page) }
     {
         match self.seat(page) {
             Some(k) => Some(k),
-            None => find_free(&self.slots),
+            None => self.lists.first(self.slots.len()),
         }
     }
 
     // Gives slot k to a page of zeros, in the frame of the page that the slot held, or in one that is free.
-    fn fill(&mut self, k: usize, page: u64, perms: Perms)
+    fn fill(&mut self, k: u32, page: u64, perms: Perms)
         requires can { CanTake self.old.slots page k }
         requires low { page < 0x800000000 }
         ensures mapped { IsMapped self.old self.new page perms.0 }
         ensures resident { self.old.frames ≡ length self.old.slots → AllResident self.old → AllResident self.new }
+        ensures room { resident_count self.new ≤ self.new.frames }
     {
-        let slot = &mut self.slots[k];
+        let buckets = self.slots.len();
+        let slot = &mut self.slots[k as usize];
+        let from = list_of(slot, buckets);
         let frame = take_frame(slot, &mut self.free);
         *slot = Some(Entry {
             page,
             perms,
             place: blank(frame),
         });
+        self.lists.shift(k, from, bucket(page, buckets));
+    }
+
+    // Takes a slot's page out, and keeps its frame.
+    fn empty(&mut self, k: u32, page: u64)
+        requires { IsSeatOf self.old.slots page k }
+        ensures { IsUnmapped self.old self.new page }
+    {
+        let buckets = self.slots.len();
+        let slot = &mut self.slots[k as usize];
+        let from = list_of(slot, buckets);
+        give_frame(slot, &mut self.free);
+        self.lists.shift(k, from, buckets);
     }
 
     /// Maps the page at the address `addr` as zeros; what was mapped there is gone.
@@ -305,6 +316,7 @@ impl Pages {
         ensures full { IsErr result ↔ ((table_of self.old (addr / 4096) ≡ None) × (mapped_count self.old ≡ length self.old.slots)) }
         ensures err { OnErr result (self.new ≡ self.old) }
         ensures resident { self.old.frames ≡ length self.old.slots → AllResident self.old → AllResident self.new }
+        ensures room { OnOk result (resident_count self.new ≤ self.new.frames) }
     {
         match self.seat_for(addr / 4096) {
             Some(k) => {
@@ -324,9 +336,49 @@ impl Pages {
         ensures resident { AllResident self.old → AllResident self.new }
     {
         match self.seat(addr / 4096) {
-            Some(k) => protect(&mut self.slots[k], perms),
+            Some(k) => protect(&mut self.slots[k as usize], perms),
             None => unreachable!(),
         }
+    }
+
+    /// Unmaps the page at the address `addr`, if it is mapped.
+    pub fn unmap_page(&mut self, addr: u64)
+        requires page { addr % 4096 ≡ 0 }
+        requires low { addr < 0x800000000000 }
+        ensures unmapped { IsUnmapped self.old self.new (addr / 4096) }
+        ensures absent { table_of self.old (addr / 4096) ≡ None → self.new ≡ self.old }
+        ensures resident { AllResident self.old → AllResident self.new }
+    {
+        if let Some(k) = self.seat(addr / 4096) {
+            self.empty(k, addr / 4096);
+        }
+    }
+
+    /// Fills the mapped page at the address `addr` with zeros.
+    pub fn zero_page(&mut self, addr: u64)
+        requires page { addr % 4096 ≡ 0 }
+        requires low { addr < 0x800000000000 }
+        requires mapped { IsSome (table_of self.old (addr / 4096)) }
+        ensures zeroed { IsZeroed self.old self.new (addr / 4096) }
+        ensures resident { AllResident self.old → AllResident self.new }
+    {
+        match self.seat(addr / 4096) {
+            Some(k) => zero(&mut self.slots[k as usize]),
+            None => unreachable!(),
+        }
+    }
+}
+
+// Empties a slot, and puts the frame of its page, if it has one, to the free ones, where there is room for it.
+fn give_frame(slot: &mut Option<Entry>, free: &mut Vec<Frame>)
+    requires { is_in_frame slot.old ≡ true → vec_len free.old < vec_capacity free.old }
+    ensures emptied { slot.new ≡ None }
+    ensures count { vec_len free.new ≡ vec_len free.old + (if is_in_frame slot.old then 1 else 0) }
+    ensures capacity { vec_capacity free.new ≡ vec_capacity free.old }
+{
+    match release(slot) {
+        Some(frame) => free.push_reserved(frame),
+        None => {}
     }
 }
 
@@ -376,5 +428,26 @@ fn absence(addr: u64) -> Miss
         Miss::NonCanonical(addr)
     } else {
         Miss::Unmapped(addr)
+    }
+}
+
+// The bucket of a page among so many.
+#[tactic(auto, unfolding(crate::specs::Slots::bucket_of))]
+fn bucket(page: u64, buckets: usize) -> usize
+    ensures value { result ≡ bucket_of page buckets }
+    ensures within { result ≤ buckets }
+{
+    let hash = page.wrapping_mul(0x9E37_79B9_7F4A_7C15) >> 32;
+    ((hash as u128 * buckets as u128) >> 32) as usize
+}
+
+// The list where a slot belongs.
+fn list_of(slot: &Option<Entry>, buckets: usize) -> usize
+    ensures value { result ≡ home_of slot.now buckets }
+    ensures within { result ≤ buckets }
+{
+    match slot {
+        Some(entry) => bucket(entry.page, buckets),
+        None => buckets,
     }
 }

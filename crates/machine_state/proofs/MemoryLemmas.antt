@@ -186,7 +186,7 @@ written_none_at byte addr at = ⊎_elim
 pub written_none : (byte : ℕ → ℕ) (addr : ℕ) → written byte addr [] ≡ byte
 written_none byte addr = λ i at. written_none_at byte addr at i
 
-length_slice : (bytes : List ℕ) (from end : ℕ) → from ≤ end → end ≤ length bytes → length (slice_range bytes from end) ≡ end - from
+pub length_slice : (bytes : List ℕ) (from end : ℕ) → from ≤ end → end ≤ length bytes → length (slice_range bytes from end) ≡ end - from
 length_slice bytes from end h l = length-take (end - from) (drop from bytes) ∙ (let rest : length (drop from bytes) ≡ length bytes - from = length-drop from bytes in rw rest (omega arith))
 
 written_on_at : (byte : ℕ → ℕ) (addr : ℕ) (bytes : List ℕ) (from end : ℕ) → from ≤ end → end ≤ length bytes → (at : ℕ)

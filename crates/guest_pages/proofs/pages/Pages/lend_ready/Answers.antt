@@ -2,7 +2,7 @@ use Rattle.std.proofs.Common.{None, refl, get_or}
 use Rattle.std.proofs.lemmas.List.{get_or_read}
 use Rattle.machine_state.specs.declared.kinds.Kind.TheVariants.{Write}
 use Rattle.guest_pages.proofs.Seats.{entry_there}
-use Rattle.guest_pages.proofs.Writes.{written_there, ready_frame, ready_entry, ready_held, lent_sound, lent_at, never_lacks}
+use Rattle.guest_pages.proofs.Writes.{written_there, ready_frame, ready_held, lent_kept, lent_at, never_lacks}
 use Rattle.guest_pages.proofs.pages.Pages.lend_ready.Goals as goal
 
 pub lend-requires-clause-resident : goal.lend-requires-clause-resident
@@ -20,10 +20,8 @@ unreachable-requires c =
 pub invariant_of-self-lent : goal.invariant_of-self-lent
 invariant_of-self-lent c = λ w.
     let read = get_or_read c.self.inside.slots.items c.in-Some.k c.index_mut-slot.result.now c.in-Some.ensures.within c.index_mut-slot.ensures.value None in
-    let entry = ready_entry (record { frames = c.self.inside.frames; slots = c.self.inside.slots.items }) Write c.args.addr c.in-Some.k c.args.len c.in-Some.ensures c.requires.some
-    (rw (← c.self.view_is) at c.requires.ready) in
-    rw (read, entry.1)
-    (lent_sound c.self.inside.slots.items _ _ _ _ c.in-Some.k _ entry.0 w c.in-Some.ensures entry.1 entry.2 entry.3 c.self.invariant.0 c.self.invariant.1)
+    let entry = entry_there (get_or c.self.inside.slots.items c.in-Some.k None) _ c.in-Some.ensures.here in
+    rw (read, entry.1) (lent_kept c.self.inside.slots.items _ _ _ _ _ c.in-Some.k _ entry.0 w c.in-Some.ensures entry.1 entry.2 c.self.invariant)
 
 pub returns : goal.returns
 returns c =
@@ -40,6 +38,6 @@ returns c =
         writes_back = tt;
         len = c.lend.ensures.len;
         written = λ bytes len. rw (← c.self.view_is)
-            (written_there (record { frames = c.self.inside.frames; slots = c.self.inside.slots.items }) c.args.addr c.in-Some.k held c.self.invariant.0 bytes (rw len c.requires.one_page));
+            (written_there (record { frames = c.self.inside.frames; slots = c.self.inside.slots.items }) c.args.addr c.in-Some.k held c.self.invariant.sound bytes (rw len c.requires.some) (rw len c.requires.one_page));
       },
     )

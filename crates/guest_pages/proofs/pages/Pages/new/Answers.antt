@@ -1,14 +1,17 @@
-use Rattle.std.proofs.Common.{refl, arith}
-use Rattle.guest_pages.proofs.Maps.{blank_sound, blank_shared, blank_there, blank_resident}
+use Rattle.std.proofs.Common.{◌≡◌, refl, arith, length}
+use Rattle.guest_pages.proofs.Maps.{blank_kept, blank_there, blank_resident}
 use Rattle.guest_pages.proofs.pages.Pages.new.Goals as goal
 
 pub invariant_of-result : goal.invariant_of-result
 invariant_of-result c =
-    let blank = c.loop.invariant.2 in
-    (blank_sound c.loop.slots.items blank (omega arith), blank_shared c.loop.slots.items _ _ _ blank (omega arith) c.loop-2.invariant.1)
+    let slots = c.in_ok-slots.ensures.len in
+    let heads = c.in_ok-lists.ensures.heads in
+    let nexts = c.in_ok-lists.ensures.nexts in
+    let len : length c.in_ok-slots.slots.items ≡ c.args.pages = omega arith in
+    blank_kept c.in_ok-slots.slots.items _ _ _ c.in_ok-lists.lists c.in_ok-slots.ensures.none (omega arith) c.loop.invariant.1 (omega arith) (omega arith) (rw len c.in_ok-lists.ensures.listed)
 
 pub returns-clause-blank : goal.returns-clause-blank
-returns-clause-blank c = blank_there _ c.args.frames c.args.pages c.loop.invariant.2 refl (omega arith)
+returns-clause-blank c = let slots = c.in_ok-slots.ensures.len in blank_there _ c.args.frames c.args.pages c.in_ok-slots.ensures.none refl (omega arith)
 
 pub returns-clause-resident : goal.returns-clause-resident
-returns-clause-resident c = blank_resident _ c.loop.invariant.2
+returns-clause-resident c = blank_resident _ c.in_ok-slots.ensures.none

@@ -2,7 +2,7 @@ use Rattle.std.proofs.Common.{◌/◌, None, get_or}
 use Rattle.std.proofs.lemmas.List.{get_or_read}
 use Rattle.guest_pages.specs.Slots.{IsSeatOf}
 use Rattle.guest_pages.proofs.Seats.{entry_there}
-use Rattle.guest_pages.proofs.Protects.{mapped_seat, protected_there, protected_resident, protected_sound}
+use Rattle.guest_pages.proofs.Protects.{mapped_seat, protected_there, protected_resident, protected_kept}
 use Rattle.guest_pages.proofs.pages.Pages.set_perms.Goals as goal
 
 pub unreachable-requires : goal.unreachable-requires
@@ -14,7 +14,7 @@ invariant_of-self c =
     let there = entry_there (get_or c.self.inside.slots.items c.in-Some.k None) _ seat.here in
     let read = get_or_read c.self.inside.slots.items c.in-Some.k c.index_mut.result.now seat.within c.index_mut.ensures.value None in
     rw (c.protect.ensures, read, there.1)
-    (protected_sound c.self.inside.slots.items _ _ _ (c.args.addr / 4096) c.in-Some.k there.0 c.args.perms seat there.1 there.2 c.self.invariant.0 c.self.invariant.1)
+    (protected_kept c.self.inside.slots.items _ _ _ _ (c.args.addr / 4096) c.in-Some.k there.0 c.args.perms seat there.1 there.2 c.self.invariant)
 
 pub returns-clause-protected : goal.returns-clause-protected
 returns-clause-protected c =
@@ -22,7 +22,7 @@ returns-clause-protected c =
     let there = entry_there (get_or c.self.inside.slots.items c.in-Some.k None) _ seat.here in
     let read = get_or_read c.self.inside.slots.items c.in-Some.k c.index_mut.result.now seat.within c.index_mut.ensures.value None in
     rw (← c.self.view_is, c.protect.ensures, read, there.1)
-    (protected_there _ (c.args.addr / 4096) c.in-Some.k there.0 seat there.1 there.2 c.self.invariant.0 c.args.perms)
+    (protected_there _ (c.args.addr / 4096) c.in-Some.k there.0 seat there.1 there.2 c.self.invariant.sound c.args.perms)
 
 pub returns-clause-resident : goal.returns-clause-resident
 returns-clause-resident c =
