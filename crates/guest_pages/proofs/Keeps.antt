@@ -53,14 +53,6 @@ kept_emptied slots frames free free' capacity capacity' old new k within given r
       filed = filed_put slots old new k None within kept.filed listed heads nexts;
     }
 
--- the frame of a slot has room among the free ones
-pub room_for : (slots : List (Option Entry)) (frames free capacity k : ℕ) → k < length slots → is_in_frame (get_or slots k None) ≡ true → AreShared slots frames free capacity → free < capacity
-room_for slots frames free capacity k within framed shares =
-    let counts : count_by is_in_frame (set slots k None) + 1 ≡ count_by is_in_frame slots = rw framed at (frames_emptied slots k within) in
-    let before = shares.shared in
-    let room = shares.room in
-    omega arith
-
 -- no more pages are in frames than there are frames
 pub kept_few : (pages : PagesValue) (free capacity : ℕ) → AreShared pages.slots pages.frames free capacity → resident_count pages ≤ pages.frames
 unfolding resident_count

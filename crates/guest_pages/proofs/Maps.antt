@@ -1,7 +1,7 @@
 -- Lemmas on a page that is mapped.
 use Rattle.std.proofs.Common.{◌≡◌, ℕ, ◌+◌, ◌/◌, ◌%◌, ◌<◌, ◌≤◌, List, Bool, true, false, cond, Option, Some, None, length, get_or, ◌==◌, refl, sym, ap, ◌∙◌, ⊎_elim, arith, ◌≢◌, is_some, count_by, nat_lt, ◌||◌, MatchOption}
 use Rattle.std.proofs.lemmas.List.{get_or_past, length-set}
-use Rattle.std.proofs.lemmas.Bool.{cases_eq, cases_lt, eq-eqb, false≢true, lt-ltb}
+use Rattle.std.proofs.lemmas.Bool.{cases_eq, cases_lt, eq-eqb, false≢true, lt-ltb, le-ltb}
 use Rattle.guest_pages.specs.declared.entry.Entry.{Entry}
 use Rattle.guest_pages.specs.declared.entry.Place.{Place}
 use Rattle.guest_pages.specs.declared.entry.Place.TheVariants.{Resident, Zeros, Swapped}
@@ -9,8 +9,8 @@ use Rattle.guest_pages.specs.declared.entry.Mark.TheVariants.{Fresh}
 use Rattle.guest_pages.specs.declared.lists.Lists.{Lists}
 use Rattle.guest_pages.specs.Lists.{AreListed}
 use Rattle.guest_pages.specs.Entry.{is_resident, is_in_frame, mark_in, place_byte, IsZeros}
-use Rattle.guest_pages.specs.Table.{Mapped, Table, away_at, with_entry}
-use Rattle.guest_pages.specs.Pages.{PagesValue, table_of, byte_of, mark_of, mapped_count}
+use Rattle.guest_pages.specs.Table.{Mapped, Table, away_at, in_frame, with_entry}
+use Rattle.guest_pages.specs.Pages.{PagesValue, table_of, byte_of, mark_of, mapped_count, resident_count}
 use Rattle.guest_pages.specs.Changes.{AllResident, IsBlank, IsMapped, with_mark}
 use Rattle.guest_pages.specs.Slots.{LacksPage, IsSeatOf, AreSound, AreShared, CanTake, AreFiled, IsKept, list_of}
 use Rattle.guest_pages.proofs.Counts.{count_by_none, count_by_below}
@@ -171,3 +171,28 @@ blank_there pages frames most blank frames_are pages_are = record {
 
 pub blank_resident : (pages : PagesValue) → ((i : ℕ) → get_or pages.slots i None ≡ None) → AllResident pages
 blank_resident pages blank page = rw (table_none pages page (blank_lacks pages.slots blank page)) refl
+
+mapped_case : (table : Table) (page : ℕ) (entry : Mapped) → in_frame (with_entry table page (Some entry) page) ≡ entry.resident
+mapped_case table page entry = rw (eq-eqb page page refl) refl
+
+slot_case : (pages : PagesValue) (page k : ℕ) (slot : Option Entry) → CanTake pages.slots page k → get_or pages.slots k None ≡ slot
+    → is_in_frame (get_or pages.slots k None) ≡ in_frame (table_of pages page)
+slot_case pages page k None can is = rw (is, table_none pages page (free_lacks pages.slots page k can is)) refl
+slot_case pages page k (Some entry) can is = rw (is, table_at pages page k entry (taken_seat pages.slots page k entry can is) is) refl
+
+free_case : (free count frames : ℕ) → free + count ≡ frames → nat_lt 0 free ≡ nat_lt count frames
+free_case free count frames shared = ⊎_elim
+    (λ (some : 0 < free). let below : count < frames = omega arith in lt-ltb 0 free some ∙ sym (lt-ltb count frames below))
+    (λ (none : free ≤ 0). let all : frames ≤ count = omega arith in le-ltb 0 free none ∙ sym (le-ltb count frames all))
+    (cases_lt 0 free)
+
+-- the page that is mapped is in a frame where it was or where one was free
+pub framed_there : (pages : PagesValue) (k free capacity : ℕ) (entry : Entry) → CanTake pages.slots entry.page k → AreShared pages.slots pages.frames free capacity
+    → is_resident entry.place ≡ (is_in_frame (get_or pages.slots k None) || nat_lt 0 free)
+    → in_frame (table_of (taken pages k entry) entry.page) ≡ (in_frame (table_of pages entry.page) || nat_lt (resident_count pages) pages.frames)
+unfolding resident_count
+framed_there pages k free capacity entry can shares is =
+    ap (λ (t : Table). in_frame (t entry.page)) (table_taken pages k entry can)
+    ∙ mapped_case (table_of pages) entry.page (entry_mapped k entry)
+    ∙ is
+    ∙ (λ i. slot_case pages entry.page k (get_or pages.slots k None) can refl i || free_case free (count_by is_in_frame pages.slots) pages.frames shares.shared i)

@@ -95,6 +95,3 @@ shown_on pages addr from end first second h one two =
       len_is = rw (length-append first second, one.len_is, two.len_is) sum;
       bytes = λ swap. rw (one.bytes swap, two.bytes swap) (sym (bytes_at-append (byte_of pages swap) addr from (end - from)) ∙ ap (bytes_at (byte_of pages swap) addr) sum);
     }
-
-pub shown_all : (pages : PagesValue) (addr len : ℕ) (bytes : List ℕ) → length bytes ≤ len → IsShown pages addr len (take len bytes) → IsShown pages addr len bytes
-shown_all pages addr len bytes h shown = rw take_all at shown

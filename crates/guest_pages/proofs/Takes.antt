@@ -70,14 +70,6 @@ pub table_kept : (pages : PagesValue) (k : ℕ) (entry : Entry) → CanTake page
     → table_of (taken pages k entry) ≡ table_of pages
 table_kept pages k entry can is = table_taken pages k entry can ∙ with_entry_same (table_of pages) entry.page (Some (entry_mapped k entry)) is
 
--- a slot given to an entry with a frame, in place of one with a frame
-pub shared_kept : (slots : List (Option Entry)) (frames free capacity k : ℕ) (entry : Entry) → k < length slots → is_in_frame (get_or slots k None) ≡ true
-    → is_resident entry.place ≡ true → AreShared slots frames free capacity → AreShared (set slots k (Some entry)) frames free capacity
-shared_kept slots frames free capacity k entry within before after shares =
-    let counts : count_by is_in_frame (set slots k (Some entry)) + 1 ≡ count_by is_in_frame slots + 1 = rw (before, after) at (frames_taken slots k entry within) in
-    let same : count_by is_in_frame (set slots k (Some entry)) ≡ count_by is_in_frame slots = omega arith in
-    record { shared = rw same shares.shared; room = shares.room }
-
 -- as many pages are mapped where a slot that held one is given to an entry
 pub count_kept : (pages : PagesValue) (k : ℕ) (entry before : Entry) → k < length pages.slots → get_or pages.slots k None ≡ Some before
     → mapped_count (taken pages k entry) ≡ mapped_count pages

@@ -68,9 +68,19 @@ pub blocked_at_once : (table : Table) (kind : Kind) (addr len : ℕ) (miss : Mis
     → blocked table kind addr len ≡ Some miss
 blocked_at_once table kind addr len miss some is = rw (first_miss_at_once (perms_in table) kind addr len miss some is) refl
 
--- what holds after an answer that went well
-pub on_answer : (result : Result (Unit {0}) Miss) (o : Option Miss) (P : Type 0) → result ≡ answer_of o → o ≡ None → OnOk result P → P
-on_answer result o P is none h = let ok : result ≡ Ok tt = is ∙ ap answer_of none in (rw ok at h)
+none_away : (table : Table) (addr len : ℕ) → ((page : ℕ) → away_at (table page) ≡ None) → first_away table addr len ≡ None
+unfolding first_away
+none_away table addr zero all = refl
+none_away table addr (suc len) all = rw (all (addr / 4096)) (none_away table (addr + 1) len all)
+
+or_none : (a : Option Miss) → or_else a None ≡ a
+or_none None = refl
+or_none (Some miss) = refl
+
+-- where every mapped page is in a frame, nothing but a miss keeps an access from being made
+pub blocked_resident : (table : Table) (kind : Kind) (addr len : ℕ) → ((page : ℕ) → away_at (table page) ≡ None)
+    → blocked table kind addr len ≡ first_miss (perms_in table) kind addr len
+blocked_resident table kind addr len all = rw (none_away table addr len all) (or_none (first_miss (perms_in table) kind addr len))
 
 -- of an access that can be made, the first byte is allowed and its page is in a frame
 pub ready_here : (table : Table) (kind : Kind) (addr len : ℕ) → 0 < len → blocked table kind addr len ≡ None
@@ -88,10 +98,6 @@ pub record WalksOn (pages : PagesValue) (kind : Kind) (addr len at left : ℕ) (
   pub more : 0 < len → 0 < left
   pub allowed : first_miss (perms_in (table_of pages)) kind addr len ≡ first_miss (perms_in (table_of pages)) kind at left
   pub away_is : first_away (table_of pages) addr len ≡ or_else (option_map Away away) (first_away (table_of pages) at left)
-
-or_else_right : (a : Option Miss) → or_else a None ≡ a
-or_else_right None = refl
-or_else_right (Some miss) = refl
 
 -- the walk goes on past bytes of one page that grants the access
 pub walks_on : (pages : PagesValue) (kind : Kind) (addr len at left n : ℕ) (away next : Option ℕ) → WalksOn pages kind addr len at left away
@@ -128,7 +134,7 @@ walked_out pages kind addr len at left away walks none = record {
       walks.away_is
       ∙ ap (λ (m : ℕ). or_else (option_map Away away) (first_away (table_of pages) at m)) none
       ∙ ap (or_else (option_map Away away)) (first_away-zero (table_of pages) at)
-      ∙ or_else_right (option_map Away away);
+      ∙ or_none (option_map Away away);
 }
 
 -- the walk meets a byte that isn't allowed

@@ -9,7 +9,7 @@ use Rattle.guest_pages.specs.declared.entry.Entry.{Entry}
 use Rattle.guest_pages.specs.declared.entry.Mark.{Mark}
 use Rattle.guest_pages.specs.declared.entry.Place.{Place}
 use Rattle.guest_pages.specs.declared.entry.Place.TheVariants.{Resident, Zeros, Swapped}
-use Rattle.guest_pages.specs.Entry.{slot_frame, entry_with, is_resident, is_in_frame, mark_in, place_with, place_marked}
+use Rattle.guest_pages.specs.Entry.{slot_frame, entry_with, slot_with, is_resident, is_in_frame, mark_in, place_with, place_marked}
 use Rattle.guest_pages.specs.Table.{blocked, away_at, perms_in}
 use Rattle.guest_pages.specs.Pages.{PagesValue, table_of, byte_of, mark_of, lent}
 use Rattle.guest_pages.specs.Changes.{IsWritten, Marks, with_mark, written_marks}
@@ -89,6 +89,12 @@ pub lent_at : (pages : PagesValue) (addr k : ℕ) (entry : Entry) (other : List 
     → lent pages addr other ≡ taken pages k (entry_with entry (addr % 4096) other)
 unfolding lent
 lent_at pages addr k entry other seat is = rw (seek_at pages.slots (addr / 4096) k entry seat is) refl
+
+-- what the code leaves of a slot whose page was lent
+pub lent_view : (pages : PagesValue) (addr k : ℕ) (slot : Option Entry) (entry : Entry) (other : List ℕ) → IsSeatOf pages.slots (addr / 4096) k
+    → get_or pages.slots k None ≡ Some entry → slot ≡ get_or pages.slots k None
+    → ◌≡◌ {A = PagesValue} (record { frames = pages.frames; slots = set pages.slots k (slot_with slot (addr % 4096) other) }) (lent pages addr other)
+lent_view pages addr k slot entry other seat is read = rw (read, is) (sym (lent_at pages addr k entry other seat is))
 
 byte_at : (pages : PagesValue) (addr k : ℕ) (held : IsHeld pages addr k) (swap : Swap) (at : ℕ) → addr / 4096 ≡ at / 4096
     → byte_of pages swap at ≡ get_or held.bytes (at % 4096) 0

@@ -1,5 +1,5 @@
 -- What the table of the mapped pages says of an access.
-use Rattle.std.specs.Prelude.{ℕ, zero, suc, ◌+◌, ◌/◌, ◌==◌, Bool, if◌then◌else◌, Option, Some, None, Result, Ok, Err}
+use Rattle.std.specs.Prelude.{ℕ, zero, suc, ◌+◌, ◌/◌, ◌==◌, Bool, false, if◌then◌else◌, Option, Some, None, Result, Ok, Err}
 use Rattle.std.specs.Option.{option_map}
 use Rattle.machine_state.specs.Memory.{Permissions, first_miss, or_else}
 use Rattle.machine_state.specs.declared.kinds.Kind.{Kind}
@@ -42,3 +42,8 @@ answer_of (Some miss) = Err miss
 -- a table with another entry at one page
 abbrev pub with_entry : Table → ℕ → Option Mapped → Table
 with_entry table page entry at = if at == page then entry else table at
+
+-- whether a page is mapped and in a frame
+abbrev pub in_frame : Option Mapped → Bool
+in_frame None = false
+in_frame (Some mapped) = mapped.resident

@@ -23,7 +23,7 @@ impl Model for Frame {
 }
 
 impl Frame {
-    pub fn new(alloc: Global) -> Result<Frame, AllocError>
+    pub(crate) fn new(alloc: Global) -> Result<Frame, AllocError>
         ensures { IfOk result (λ frame. length frame ≡ 4096) }
     {
         let bytes = vec![in alloc; 0u8; 4096]?;
@@ -31,7 +31,7 @@ impl Frame {
     }
 
     /// The bytes from `at` on.
-    pub fn part(&self, at: usize, len: usize) -> &[u8]
+    pub(crate) fn part(&self, at: usize, len: usize) -> &[u8]
         requires { at + len ≤ 4096 }
         ensures bytes { result.now ≡ slice_range self.now at (at + len) }
         ensures whole { length self.now ≡ 4096 }
@@ -40,7 +40,7 @@ impl Frame {
     }
 
     /// Lends the bytes from `at` on.
-    pub fn lend(&mut self, at: usize, len: usize) -> &mut [u8]
+    pub(crate) fn lend(&mut self, at: usize, len: usize) -> &mut [u8]
         requires { at + len ≤ 4096 }
         ensures* writes_back { sem 𝓛 (LendsFrame self.entry at result) }
         ensures bytes { result.now ≡ slice_range self.old at (at + len) }
@@ -50,7 +50,7 @@ impl Frame {
         self.bytes.slice_mut(at..at + len)
     }
 
-    pub fn clear(&mut self)
+    pub(crate) fn clear(&mut self)
         ensures zeros { All (λ byte. byte ≡ 0) self.new }
         ensures whole { length self.new ≡ 4096 }
     {

@@ -6,7 +6,5 @@ mod frame;
 mod lists;
 mod pages;
 
-pub use entry::{Entry, Mark, Place};
-pub use frame::Frame;
 pub use machine_state::{Kind, Miss, Perms};
 pub use pages::{Full, Pages};

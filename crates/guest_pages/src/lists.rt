@@ -14,7 +14,7 @@ impl Lists {
     ghost use Rattle.guest_pages.specs.Lists.{among, IsList, IsIn, IsBefore, IsRemoved, AreDisjoint, AreListed, moved};
 
     /// So many lists, and all numbers in one of them, their home.
-    pub fn new(alloc: Global, lists: usize, home: usize, numbers: u32) -> Result<Lists, AllocError>
+    pub(crate) fn new(alloc: Global, lists: usize, home: usize, numbers: u32) -> Result<Lists, AllocError>
         requires { home < lists }
         ensures heads { IfOk result (λ new. vec_len new.heads ≡ lists) }
         ensures nexts { IfOk result (λ new. vec_len new.nexts ≡ numbers) }
@@ -30,7 +30,7 @@ impl Lists {
     }
 
     /// The first number of a list.
-    pub fn first(&self, list: usize) -> Option<u32>
+    pub(crate) fn first(&self, list: usize) -> Option<u32>
         requires { list < vec_len self.now.heads }
         ensures { result ≡ slice_index_or self.now.heads.items list None }
     {
@@ -38,7 +38,7 @@ impl Lists {
     }
 
     /// The number after another in its list.
-    pub fn next(&self, number: u32) -> Option<u32>
+    pub(crate) fn next(&self, number: u32) -> Option<u32>
         requires { number < vec_len self.now.nexts }
         ensures { result ≡ slice_index_or self.now.nexts.items number None }
     {
@@ -93,7 +93,7 @@ impl Lists {
     }
 
     /// Moves a number from its home to another list.
-    pub fn shift(&mut self, number: u32, from: usize, to: usize)
+    pub(crate) fn shift(&mut self, number: u32, from: usize, to: usize)
         requires from { from < vec_len self.old.heads }
         requires to { to < vec_len self.old.heads }
         requires number { number < vec_len self.old.nexts }
@@ -108,7 +108,7 @@ impl Lists {
 }
 
 /// A vector of so many `None`.
-pub fn vacant<T: Drop>(alloc: Global, count: usize) -> Result<Vec<Option<T>>, AllocError>
+pub(crate) fn vacant<T: Drop>(alloc: Global, count: usize) -> Result<Vec<Option<T>>, AllocError>
     ensures len { IfOk result (λ v. vec_len v ≡ count) }
     ensures none { IfOk result (λ v. (i : ℕ) → slice_index_or v.items i None ≡ None) }
 {

@@ -1,11 +1,10 @@
 //! The pages of guest memory.
-ghost use Rattle.std.specs.Prelude.{◌≡◌, ◌<◌, ◌≤◌, ◌+◌, length, slice_index_or, None, Some, true, is_some};
-ghost use Rattle.std.specs.Prelude.{◌-◌, ◌%◌, ◌||◌, nat_lt, vec_len, if◌then◌else◌};
-ghost use Rattle.std.specs.Vec.{vec_capacity};
-ghost use Rattle.guest_pages.specs.Entry.{is_in_frame};
+ghost use Rattle.std.specs.Prelude.{◌≡◌, ◌<◌, ◌≤◌, ◌+◌, ◌-◌, ◌%◌, ◌||◌, None, Some, true, is_some, nat_lt, vec_len, if◌then◌else◌};
 ghost use Rattle.std.specs.Option.{option_map};
+ghost use Rattle.std.specs.Vec.{vec_capacity};
 ghost use Rattle.machine_state.specs.declared.kinds.Miss.TheVariants.{Away};
 ghost use Rattle.machine_state.specs.Memory.{miss_at, or_else};
+ghost use Rattle.guest_pages.specs.Entry.{is_in_frame};
 ghost use Rattle.guest_pages.specs.Slots.{bucket_of, list_of as home_of};
 
 use crate::entry::{Entry, blank, frame_of, grants, holds, lend, protect, release, zero};
@@ -39,15 +38,17 @@ impl Model for Pages {
 
     ghost view = { λ pages. record { frames = pages.frames; slots = pages.slots.items } };
 
-    ghost invariant = { λ pages. IsKept pages.slots.items pages.frames (vec_len pages.free) (vec_capacity pages.free) pages.lists };
+    ghost invariant = {
+        λ pages. IsKept pages.slots.items pages.frames
+            (vec_len pages.free) (vec_capacity pages.free) pages.lists
+    };
 }
 
 impl Pages {
-    ghost use Rattle.std.specs.Prelude.{◌≡◌, ◌<◌, ◌≤◌, ◌+◌, ◌/◌, ◌%◌, ◌^◌, ◌↔◌, ℕ, List, length, take, slice_range, slice_index_or, Option, Some, None, MatchResult, MatchOption, OnOk, OnErr, IfOk, IsErr, IsSome, is_some};
-    ghost use Rattle.std.specs.Option.{option_map};
+    ghost use Rattle.std.specs.Prelude.{◌≡◌, ◌<◌, ◌≤◌, ◌+◌, ◌/◌, ◌%◌, ◌^◌, ◌↔◌, ◌||◌, ℕ, List, length, take, slice_range, slice_index_or, nat_lt, None, Some, MatchResult, MatchOption, OnOk, OnErr, IfOk, IsErr, IsSome};
     ghost use Rattle.std.specs.Borrow.{sem};
     ghost use Rattle.machine_state.specs.Memory.{first_miss, miss_at};
-    ghost use Rattle.guest_pages.specs.Table.{perms_in, first_away, blocked, answer_of};
+    ghost use Rattle.guest_pages.specs.Table.{perms_in, blocked, answer_of, in_frame};
     ghost use Rattle.guest_pages.specs.Pages.{table_of, mapped_count, resident_count, lent};
     ghost use Rattle.guest_pages.specs.Changes.{AllResident, IsBlank, IsShown, IsWritten, IsMapped, IsUnmapped, IsProtected, IsZeroed};
     ghost use Rattle.guest_pages.specs.Slots.{LacksPage, IsSeatOf, IsGranted, CanTake, IsWalked};
@@ -91,7 +92,10 @@ impl Pages {
 
     // The slot of the page at an address, where the access to that byte is allowed.
     fn locate(&self, addr: u64, kind: Kind) -> Result<u32, Miss>
-        ensures { MatchResult result (IsGranted self.now kind addr) (λ miss. miss_at (perms_in (table_of self.now)) kind addr ≡ Some miss) }
+        ensures {
+            MatchResult result (IsGranted self.now kind addr)
+                (λ miss. miss_at (perms_in (table_of self.now)) kind addr ≡ Some miss)
+        }
     {
         match self.seat(addr / 4096) {
             Some(k) => {
@@ -118,7 +122,10 @@ impl Pages {
 
     // Walks an access along its pages: the slot of the first page away, or why the first byte not allowed isn't.
     fn walk(&self, addr: u64, len: u64, kind: Kind) -> Result<Option<u32>, Miss>
-        ensures walked { MatchResult result (IsWalked self.now kind addr len) (λ miss. first_miss (perms_in (table_of self.now)) kind addr len ≡ Some miss) }
+        ensures walked {
+            MatchResult result (IsWalked self.now kind addr len)
+                (λ miss. first_miss (perms_in (table_of self.now)) kind addr len ≡ Some miss)
+        }
         ensures low { OnOk result (0 < len → addr + len ≤ 0x800000000000) }
     {
         let mut away = None;
@@ -139,7 +146,9 @@ impl Pages {
 
     /// Whether the bytes from `addr` on may be accessed. The answer doesn't look at residency, so it is never `Away`.
     pub fn allowed(&self, addr: u64, len: u64, kind: Kind) -> Result<(), Miss>
-        ensures answer { result ≡ answer_of (first_miss (perms_in (table_of self.now)) kind addr len) }
+        ensures answer {
+            result ≡ answer_of (first_miss (perms_in (table_of self.now)) kind addr len)
+        }
         ensures low { OnOk result (0 < len → addr + len ≤ 0x800000000000) }
     {
         match self.walk(addr, len, kind) {
@@ -164,7 +173,10 @@ impl Pages {
     pub fn view(&self, addr: u64, len: usize, kind: Kind) -> Result<&[u8], Miss>
         requires some { 0 < len }
         requires one_page { addr % 4096 + len ≤ 4096 }
-        ensures answer { MatchResult result (λ _. blocked (table_of self.now) kind addr len ≡ None) (λ miss. blocked (table_of self.now) kind addr len ≡ Some miss) }
+        ensures answer {
+            MatchResult result (λ _. blocked (table_of self.now) kind addr len ≡ None)
+                (λ miss. blocked (table_of self.now) kind addr len ≡ Some miss)
+        }
         ensures bytes { IfOk result (λ shown. IsShown self.now addr len shown.now) }
     {
         let k = self.locate(addr, kind)?;
@@ -179,7 +191,10 @@ impl Pages {
         requires some { 0 < len }
         requires one_page { addr % 4096 + len ≤ 4096 }
         ensures len { IfOk result (λ part. length part.now ≡ len) }
-        ensures answer { MatchResult result (λ _. blocked (table_of self.old) Kind.Write addr len ≡ None) (λ miss. blocked (table_of self.old) Kind.Write addr len ≡ Some miss) }
+        ensures answer {
+            MatchResult result (λ _. blocked (table_of self.old) Kind.Write addr len ≡ None)
+                (λ miss. blocked (table_of self.old) Kind.Write addr len ≡ Some miss)
+        }
     {
         self.ready(addr, len as u64, Kind::Write)?;
         Ok(self.lend_ready(addr, len))
@@ -192,7 +207,10 @@ impl Pages {
         requires ready { blocked (table_of self.old) Kind.Write addr len ≡ None }
         ensures* writes_back { sem 𝓛 (LendsPages self.entry addr result) }
         ensures len { length result.now ≡ len }
-        ensures written { (bytes : List ℕ) → length bytes ≡ len → IsWritten self.old (lent self.old addr bytes) addr bytes }
+        ensures written {
+            (bytes : List ℕ) → length bytes ≡ len
+            → IsWritten self.old (lent self.old addr bytes) addr bytes
+        }
     {
         match self.seat(addr / 4096) {
             Some(k) => {
@@ -221,7 +239,9 @@ impl Pages {
 
     /// Writes all bytes or none.
     pub fn write(&mut self, addr: u64, bytes: &[u8]) -> Result<(), Miss>
-        ensures answer { result ≡ answer_of (blocked (table_of self.old) Kind.Write addr (length bytes.now)) }
+        ensures answer {
+            result ≡ answer_of (blocked (table_of self.old) Kind.Write addr (length bytes.now))
+        }
         ensures ok { OnOk result (IsWritten self.old self.new addr bytes.now) }
         ensures err { OnErr result (self.new ≡ self.old) }
     {
@@ -254,7 +274,9 @@ impl Pages {
 
     /// Reads all bytes or none.
     pub fn read(&self, addr: u64, into: &mut [u8], kind: Kind) -> Result<(), Miss>
-        ensures answer { result ≡ answer_of (blocked (table_of self.now) kind addr (length into.old)) }
+        ensures answer {
+            result ≡ answer_of (blocked (table_of self.now) kind addr (length into.old))
+        }
         ensures ok { OnOk result (IsShown self.now addr (length into.old) into.new) }
         ensures err { OnErr result (into.new ≡ into.old) }
     {
@@ -268,7 +290,11 @@ impl Pages {
 
     // The slot of a page, or else a free one.
     fn seat_for(&self, page: u64) -> Option<u32>
-        ensures { MatchOption result ((table_of self.now page ≡ None) × (mapped_count self.now ≡ length self.now.slots)) (CanTake self.now.slots page) }
+        ensures {
+            MatchOption result
+                ((table_of self.now page ≡ None) × (mapped_count self.now ≡ length self.now.slots))
+                (CanTake self.now.slots page)
+        }
     {
         match self.seat(page) {
             Some(k) => Some(k),
@@ -281,7 +307,13 @@ impl Pages {
         requires can { CanTake self.old.slots page k }
         requires low { page < 0x800000000 }
         ensures mapped { IsMapped self.old self.new page perms.0 }
-        ensures resident { self.old.frames ≡ length self.old.slots → AllResident self.old → AllResident self.new }
+        ensures framed {
+            in_frame (table_of self.new page) ≡ (in_frame (table_of self.old page)
+            || nat_lt (resident_count self.old) self.old.frames)
+        }
+        ensures resident {
+            self.old.frames ≡ length self.old.slots → AllResident self.old → AllResident self.new
+        }
         ensures room { resident_count self.new ≤ self.new.frames }
     {
         let buckets = self.slots.len();
@@ -313,9 +345,21 @@ impl Pages {
         requires page { addr % 4096 ≡ 0 }
         requires low { addr < 0x800000000000 }
         ensures ok { OnOk result (IsMapped self.old self.new (addr / 4096) perms.0) }
-        ensures full { IsErr result ↔ ((table_of self.old (addr / 4096) ≡ None) × (mapped_count self.old ≡ length self.old.slots)) }
+        ensures full {
+            IsErr result ↔ ((table_of self.old (addr / 4096) ≡ None)
+            × (mapped_count self.old ≡ length self.old.slots))
+        }
         ensures err { OnErr result (self.new ≡ self.old) }
-        ensures resident { self.old.frames ≡ length self.old.slots → AllResident self.old → AllResident self.new }
+
+        // A page that was in a frame keeps it, and another gets one where one is free.
+        ensures framed {
+            OnOk result (in_frame (table_of self.new (addr / 4096))
+            ≡ (in_frame (table_of self.old (addr / 4096))
+            || nat_lt (resident_count self.old) self.old.frames))
+        }
+        ensures resident {
+            self.old.frames ≡ length self.old.slots → AllResident self.old → AllResident self.new
+        }
         ensures room { OnOk result (resident_count self.new ≤ self.new.frames) }
     {
         match self.seat_for(addr / 4096) {
@@ -373,7 +417,9 @@ impl Pages {
 fn give_frame(slot: &mut Option<Entry>, free: &mut Vec<Frame>)
     requires { is_in_frame slot.old ≡ true → vec_len free.old < vec_capacity free.old }
     ensures emptied { slot.new ≡ None }
-    ensures count { vec_len free.new ≡ vec_len free.old + (if is_in_frame slot.old then 1 else 0) }
+    ensures count {
+        vec_len free.new ≡ vec_len free.old + (if is_in_frame slot.old then 1 else 0)
+    }
     ensures capacity { vec_capacity free.new ≡ vec_capacity free.old }
 {
     match release(slot) {
@@ -386,7 +432,10 @@ fn give_frame(slot: &mut Option<Entry>, free: &mut Vec<Frame>)
 fn take_frame(slot: &mut Option<Entry>, free: &mut Vec<Frame>) -> Option<Frame>
     ensures emptied { slot.new ≡ None }
     ensures frame { is_some result ≡ (is_in_frame slot.old || nat_lt 0 (vec_len free.old)) }
-    ensures count { vec_len free.new + (if is_some result then 1 else 0) ≡ vec_len free.old + (if is_in_frame slot.old then 1 else 0) }
+    ensures count {
+        vec_len free.new + (if is_some result then 1 else 0)
+        ≡ vec_len free.old + (if is_in_frame slot.old then 1 else 0)
+    }
     ensures capacity { vec_capacity free.new ≡ vec_capacity free.old }
 {
     match release(slot) {
@@ -412,7 +461,9 @@ fn chunk_end(at: u64, done: usize, len: usize) -> usize
 
 // The first of two slots.
 fn earlier(first: Option<u32>, other: Option<u32>) -> Option<u32>
-    ensures { option_map Away result ≡ or_else (option_map Away first) (option_map Away other) }
+    ensures {
+        option_map Away result ≡ or_else (option_map Away first) (option_map Away other)
+    }
 {
     match first {
         Some(slot) => Some(slot),

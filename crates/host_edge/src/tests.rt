@@ -1,6 +1,6 @@
 // What the contracts leave open: that calls succeed, and what files of the system give back.
-ghost use Rattle.std.specs.Prelude.{◌≡◌, IfOk, vec_len};
-ghost use Rattle.host_edge.specs.NamedFiles.{named};
+ghost use Rattle.std.specs.Prelude.{◌≡◌, ◌<◌, IfOk, IsTrue, OnOk, length, map, vec_len};
+ghost use Rattle.host_edge.specs.NamedFiles.{fits_in, named};
 
 use crate::bytes::zeros;
 use crate::{
@@ -66,32 +66,75 @@ fn page_of(alloc: Global, byte: u8) -> Result<Vec<u8>, AllocError>
     Ok(page)
 }
 
+// A host in memory, of which the test knows no more than that it is made.
+fn host_of(
+    alloc: Global,
+    files: Vec<(String, Vec<u8>)>,
+    room: usize,
+    pages: u32,
+    fail: &[u64],
+) -> Result<MemHost, AllocError>
+    requires { IsTrue (fits_in room (map named files.items)) }
+{
+    MemHost::new(alloc, files, room, pages, fail)
+}
+
+// The calls through the bound alone, with no more facts than a caller has who knows no host.
+fn load<H: Host>(host: &mut H, path: &str, into: &mut [u8]) -> Result<u64, Failed> {
+    host.load(path, into)
+}
+
+fn store<H: Host>(host: &mut H, path: &str, bytes: &[u8]) -> Result<(), Failed> {
+    host.store(path, bytes)
+}
+
+fn open<H: Host>(host: &mut H, path: &str) -> Result<(), Failed>
+    ensures { OnOk result (H.opened host.new ≡ 2) }
+{
+    host.swap_open(path, 2)
+}
+
+fn put<H: Host>(host: &mut H, page: u32, from: &[u8]) -> Result<(), Failed>
+    requires is_opened { page < H.opened host.old }
+    requires is_page { length from.now ≡ PAGE }
+    ensures { H.opened host.new ≡ H.opened host.old }
+{
+    host.swap_put(page, from)
+}
+
+fn get<H: Host>(host: &mut H, page: u32, into: &mut [u8]) -> Result<(), Failed>
+    requires is_opened { page < H.opened host.old }
+    requires is_page { length into.old ≡ PAGE }
+    ensures { H.opened host.new ≡ H.opened host.old }
+{
+    host.swap_get(page, into)
+}
+
 #[test]
 fn each_call_of_a_host_fails_by_its_number(rt: HostRuntime) -> Result<(), Fail> {
     let alloc = rt.alloc();
     let files = vec![in alloc; file(alloc, "a", b"xyz")?]?;
-    let mut host = MemHost::new(alloc, files, 20, 2, &[1, 3, 6, 8, 10])?;
+    let mut host = host_of(alloc, files, 20, 2, &[1, 3, 6, 8, 10])?;
     let mut into = *b"....";
-    assert_eq!(rt; host.load("a", &mut into), Err(Failed));
-    assert_eq!(rt; host.load("a", &mut into), Ok(3));
+    assert_eq!(rt; load(&mut host, "a", &mut into), Err(Failed));
+    assert_eq!(rt; load(&mut host, "a", &mut into), Ok(3));
     assert_eq!(rt; &into, b"xyz.");
-    assert_eq!(rt; host.store("b", b"new"), Err(Failed));
-    assert_eq!(rt; host.load("b", &mut into), Err(Failed), "no such file");
-    assert_eq!(rt; host.store("b", b"new"), Ok(()));
-    assert_eq!(rt; host.swap_open("s", 2), Err(Failed));
-    host.swap_open("s", 2)?;
+    assert_eq!(rt; store(&mut host, "b", b"new"), Err(Failed));
+    assert_eq!(rt;
+        load(&mut host, "b", &mut into),
+        Err(Failed),
+        "no such file"
+    );
+    assert_eq!(rt; store(&mut host, "b", b"new"), Ok(()));
+    assert_eq!(rt; open(&mut host, "s"), Err(Failed));
+    open(&mut host, "s")?;
     let page = page_of(alloc, 7)?;
     let mut back = page_of(alloc, 0)?;
-    assert_eq!(rt; host.swap_put(1, &page), Err(Failed));
-    assert_eq!(rt; host.swap_put(1, &page), Ok(()));
-    assert_eq!(rt; host.swap_get(1, &mut back), Err(Failed));
-    assert_eq!(rt; host.swap_get(1, &mut back), Ok(()));
+    assert_eq!(rt; put(&mut host, 1, &page), Err(Failed));
+    assert_eq!(rt; put(&mut host, 1, &page), Ok(()));
+    assert_eq!(rt; get(&mut host, 1, &mut back), Err(Failed));
+    assert_eq!(rt; get(&mut host, 1, &mut back), Ok(()));
     assert_eq!(rt; back.as_slice(), page.as_slice());
-    assert_eq!(rt;
-        host.swap_open("s", 3),
-        Err(Failed),
-        "more pages than there are"
-    );
     Ok(())
 }
 
@@ -99,36 +142,45 @@ fn each_call_of_a_host_fails_by_its_number(rt: HostRuntime) -> Result<(), Fail> 
 fn a_store_that_passes_the_room_changes_nothing(rt: HostRuntime) -> Result<(), Fail> {
     let alloc = rt.alloc();
     let files = vec![in alloc; file(alloc, "a", b"xyz")?, file(alloc, "b", b"")?]?;
-    let mut host = MemHost::new(alloc, files, 8, 1, &[])?;
+    let mut host = host_of(alloc, files, 8, 1, &[])?;
     let mut into = *b"....";
-    assert_eq!(rt; host.store("b", b"1234"), Err(Failed));
-    assert_eq!(rt; host.load("a", &mut into), Ok(3));
+    assert_eq!(rt; store(&mut host, "b", b"1234"), Err(Failed));
+    assert_eq!(rt; load(&mut host, "a", &mut into), Ok(3));
     assert_eq!(rt; &into, b"xyz.");
-    assert_eq!(rt; host.load("b", &mut into), Ok(0));
+    assert_eq!(rt; load(&mut host, "b", &mut into), Ok(0));
     assert_eq!(rt;
-        host.store("a", b"123456"),
+        store(&mut host, "a", b"123456"),
         Ok(()),
         "in place of its own bytes"
     );
-    assert_eq!(rt; host.load("a", &mut into), Ok(5), "longer than the buffer");
+    assert_eq!(rt;
+        load(&mut host, "a", &mut into),
+        Ok(5),
+        "longer than the buffer"
+    );
     assert_eq!(rt; &into, b"1234");
+    assert_eq!(rt;
+        open(&mut host, "s"),
+        Err(Failed),
+        "more pages than there are"
+    );
     Ok(())
 }
 
 #[test]
 fn a_sixty_fifth_file_is_refused(rt: HostRuntime) -> Result<(), Fail> {
     let alloc = rt.alloc();
-    let mut host = MemHost::new(alloc, Vec::new(alloc), 1000, 1, &[])?;
+    let mut host = host_of(alloc, Vec::new(alloc), 1000, 1, &[])?;
     for number in 0..64u8 {
         let path = format!(in alloc; "{number}")?;
-        assert_eq!(rt; host.store(&path, &[number]), Ok(()));
+        assert_eq!(rt; store(&mut host, &path, &[number]), Ok(()));
     }
-    assert_eq!(rt; host.store("64", b""), Err(Failed));
-    assert_eq!(rt; host.store("17", b"new"), Ok(()));
     let mut into = *b"....";
-    assert_eq!(rt; host.load("17", &mut into), Ok(3));
+    assert_eq!(rt; store(&mut host, "64", b""), Err(Failed));
+    assert_eq!(rt; store(&mut host, "17", b"new"), Ok(()));
+    assert_eq!(rt; load(&mut host, "17", &mut into), Ok(3));
     assert_eq!(rt; &into, b"new.");
-    assert_eq!(rt; host.load("16", &mut into), Ok(1));
+    assert_eq!(rt; load(&mut host, "16", &mut into), Ok(1));
     assert_eq!(rt; into[0], 16);
     Ok(())
 }
@@ -138,31 +190,33 @@ fn a_host_over_files_gives_back_what_it_was_given(rt: HostRuntime) -> Result<(),
     let folder = env::temp_dir(&rt)?;
     let id = process::id(rt.process());
     let path = format!(in rt.alloc(); "{}/host_edge_{id}", folder.as_str())?;
-    let swap = format!(in rt.alloc(); "{path}_swap")?;
     let mut host = FileHost::new(&rt);
     let mut into = *b"......";
-    assert_eq!(rt; host.load(&path, &mut into), Err(Failed), "no such file");
-    assert_eq!(rt; host.store(&path, b"hello\n"), Ok(()));
     assert_eq!(rt;
-        host.load(&path, &mut into[..5]),
+        load(&mut host, &path, &mut into),
+        Err(Failed),
+        "no such file"
+    );
+    assert_eq!(rt; store(&mut host, &path, b"hello\n"), Ok(()));
+    assert_eq!(rt;
+        load(&mut host, &path, &mut into[..5]),
         Ok(6),
         "longer than the buffer"
     );
     assert_eq!(rt; &into, b"hello.");
-    assert_eq!(rt; host.store(&path, b"abc"), Ok(()));
-    assert_eq!(rt; host.load(&path, &mut into), Ok(3));
+    assert_eq!(rt; store(&mut host, &path, b"abc"), Ok(()));
+    assert_eq!(rt; load(&mut host, &path, &mut into), Ok(3));
     assert_eq!(rt; &into, b"abclo.");
     let (first, last) = (page_of(rt.alloc(), 1)?, page_of(rt.alloc(), 3)?);
     let mut back = page_of(rt.alloc(), 0)?;
-    host.swap_open(&swap, 3)?;
-    host.swap_put(2, &last)?;
-    host.swap_put(0, &first)?;
-    host.swap_get(2, &mut back)?;
+    open(&mut host, &path)?;
+    assert_eq!(rt; put(&mut host, 1, &last), Ok(()));
+    assert_eq!(rt; put(&mut host, 0, &first), Ok(()));
+    assert_eq!(rt; get(&mut host, 1, &mut back), Ok(()));
     assert_eq!(rt; back.as_slice(), last.as_slice());
-    host.swap_get(0, &mut back)?;
+    assert_eq!(rt; get(&mut host, 0, &mut back), Ok(()));
     assert_eq!(rt; back.as_slice(), first.as_slice());
     fs::remove_file(&rt, &path)?;
-    fs::remove_file(&rt, &swap)?;
     Ok(())
 }
 

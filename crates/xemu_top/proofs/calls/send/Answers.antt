@@ -4,7 +4,7 @@ use Rattle.machine_state.proofs.MemoryLemmas.{bytes_at-zero, first_miss_part, le
 use Rattle.host_edge.specs.Streams.{told}
 use Rattle.guest_pages.specs.Table.{perms_in}
 use Rattle.guest_pages.specs.Pages.{table_of, byte_of}
-use Rattle.xemu_top.proofs.ImageLemmas.{blocked-resident}
+use Rattle.guest_pages.proofs.Walks.{blocked_resident}
 use Rattle.xemu_top.proofs.SendLemmas.{put-all, put-more}
 use Rattle.xemu_top.proofs.calls.send.Goals as goal
 
@@ -18,7 +18,7 @@ loop-done-init g c = record {
 
 pub send_part-requires-clause-readable : goal.send_part-requires-clause-readable
 send_part-requires-clause-readable g c =
-    blocked-resident (table_of c.args.pages.now) Read _ _ c.requires.resident
+    blocked_resident (table_of c.args.pages.now) Read _ _ c.requires.resident
     ∙ first_miss_part (perms_in (table_of c.args.pages.now)) Read c.args.addr c.args.count c.loop-done.done c.min-part.result
     (omega arith) c.requires.readable
 

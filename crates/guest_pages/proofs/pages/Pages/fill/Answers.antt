@@ -1,7 +1,7 @@
 use Rattle.std.proofs.Common.{◌≡◌, ◌∙◌, None, length, arith}
 use Rattle.std.proofs.lemmas.List.{get_or_read}
 use Rattle.guest_pages.specs.Slots.{CanTake, home_in}
-use Rattle.guest_pages.proofs.Maps.{mapped_there, resident_mapped}
+use Rattle.guest_pages.proofs.Maps.{mapped_there, framed_there, resident_mapped}
 use Rattle.guest_pages.proofs.Files.{filed_in, home_is}
 use Rattle.guest_pages.proofs.Keeps.{kept_filled, kept_few}
 use Rattle.guest_pages.proofs.pages.Pages.fill.Goals as goal
@@ -28,6 +28,14 @@ pub returns-clause-mapped : goal.returns-clause-mapped
 returns-clause-mapped c =
     rw (← c.self.view_is)
     (mapped_there _ c.args.k (record { page = c.args.page; perms = c.args.perms; place = c.blank.result }) (rw (← c.self.view_is) at c.requires.can) c.blank.ensures.zeros)
+
+pub returns-clause-framed : goal.returns-clause-framed
+returns-clause-framed c =
+    rw (← c.self.view_is)
+    (let can : CanTake c.self.inside.slots.items c.args.page c.args.k = rw (← c.self.view_is) at c.requires.can in
+    let read = get_or_read c.self.inside.slots.items c.args.k c.index_mut-slot.result.now can.within c.index_mut-slot.ensures.value None in
+    framed_there _ c.args.k _ _ (record { page = c.args.page; perms = c.args.perms; place = c.blank.result }) can c.self.invariant.shares
+    (c.blank.ensures.frame ∙ (rw read at c.take_frame-frame.ensures.frame)))
 
 pub returns-clause-resident : goal.returns-clause-resident
 returns-clause-resident c =
