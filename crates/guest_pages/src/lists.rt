@@ -14,7 +14,12 @@ impl Lists {
     ghost use Rattle.guest_pages.specs.Lists.{among, IsList, IsIn, IsBefore, IsRemoved, AreDisjoint, AreListed, moved};
 
     /// So many lists, and all numbers in one of them, their home.
-    pub(crate) fn new(alloc: Global, lists: usize, home: usize, numbers: u32) -> Result<Lists, AllocError>
+    pub(crate) fn new(
+        alloc: Global,
+        lists: usize,
+        home: usize,
+        numbers: u32,
+    ) -> Result<Lists, AllocError>
         requires { home < lists }
         ensures heads { IfOk result (λ new. vec_len new.heads ≡ lists) }
         ensures nexts { IfOk result (λ new. vec_len new.nexts ≡ numbers) }

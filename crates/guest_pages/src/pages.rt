@@ -38,10 +38,8 @@ impl Model for Pages {
 
     ghost view = { λ pages. record { frames = pages.frames; slots = pages.slots.items } };
 
-    ghost invariant = {
-        λ pages. IsKept pages.slots.items pages.frames
-            (vec_len pages.free) (vec_capacity pages.free) pages.lists
-    };
+    ghost invariant = { λ pages. IsKept pages.slots.items pages.frames
+        (vec_len pages.free) (vec_capacity pages.free) pages.lists };
 }
 
 impl Pages {
@@ -92,10 +90,8 @@ impl Pages {
 
     // The slot of the page at an address, where the access to that byte is allowed.
     fn locate(&self, addr: u64, kind: Kind) -> Result<u32, Miss>
-        ensures {
-            MatchResult result (IsGranted self.now kind addr)
-                (λ miss. miss_at (perms_in (table_of self.now)) kind addr ≡ Some miss)
-        }
+        ensures { MatchResult result (IsGranted self.now kind addr)
+            (λ miss. miss_at (perms_in (table_of self.now)) kind addr ≡ Some miss) }
     {
         match self.seat(addr / 4096) {
             Some(k) => {
@@ -122,10 +118,8 @@ impl Pages {
 
     // Walks an access along its pages: the slot of the first page away, or why the first byte not allowed isn't.
     fn walk(&self, addr: u64, len: u64, kind: Kind) -> Result<Option<u32>, Miss>
-        ensures walked {
-            MatchResult result (IsWalked self.now kind addr len)
-                (λ miss. first_miss (perms_in (table_of self.now)) kind addr len ≡ Some miss)
-        }
+        ensures walked { MatchResult result (IsWalked self.now kind addr len)
+            (λ miss. first_miss (perms_in (table_of self.now)) kind addr len ≡ Some miss) }
         ensures low { OnOk result (0 < len → addr + len ≤ 0x800000000000) }
     {
         let mut away = None;
@@ -146,9 +140,7 @@ impl Pages {
 
     /// Whether the bytes from `addr` on may be accessed. The answer doesn't look at residency, so it is never `Away`.
     pub fn allowed(&self, addr: u64, len: u64, kind: Kind) -> Result<(), Miss>
-        ensures answer {
-            result ≡ answer_of (first_miss (perms_in (table_of self.now)) kind addr len)
-        }
+        ensures answer { result ≡ answer_of (first_miss (perms_in (table_of self.now)) kind addr len) }
         ensures low { OnOk result (0 < len → addr + len ≤ 0x800000000000) }
     {
         match self.walk(addr, len, kind) {
@@ -173,10 +165,8 @@ impl Pages {
     pub fn view(&self, addr: u64, len: usize, kind: Kind) -> Result<&[u8], Miss>
         requires some { 0 < len }
         requires one_page { addr % 4096 + len ≤ 4096 }
-        ensures answer {
-            MatchResult result (λ _. blocked (table_of self.now) kind addr len ≡ None)
-                (λ miss. blocked (table_of self.now) kind addr len ≡ Some miss)
-        }
+        ensures answer { MatchResult result (λ _. blocked (table_of self.now) kind addr len ≡ None)
+            (λ miss. blocked (table_of self.now) kind addr len ≡ Some miss) }
         ensures bytes { IfOk result (λ shown. IsShown self.now addr len shown.now) }
     {
         let k = self.locate(addr, kind)?;
@@ -191,10 +181,8 @@ impl Pages {
         requires some { 0 < len }
         requires one_page { addr % 4096 + len ≤ 4096 }
         ensures len { IfOk result (λ part. length part.now ≡ len) }
-        ensures answer {
-            MatchResult result (λ _. blocked (table_of self.old) Kind.Write addr len ≡ None)
-                (λ miss. blocked (table_of self.old) Kind.Write addr len ≡ Some miss)
-        }
+        ensures answer { MatchResult result (λ _. blocked (table_of self.old) Kind.Write addr len ≡ None)
+            (λ miss. blocked (table_of self.old) Kind.Write addr len ≡ Some miss) }
     {
         self.ready(addr, len as u64, Kind::Write)?;
         Ok(self.lend_ready(addr, len))
@@ -207,10 +195,8 @@ impl Pages {
         requires ready { blocked (table_of self.old) Kind.Write addr len ≡ None }
         ensures* writes_back { sem 𝓛 (LendsPages self.entry addr result) }
         ensures len { length result.now ≡ len }
-        ensures written {
-            (bytes : List ℕ) → length bytes ≡ len
-            → IsWritten self.old (lent self.old addr bytes) addr bytes
-        }
+        ensures written { (bytes : List ℕ) → length bytes ≡ len
+            → IsWritten self.old (lent self.old addr bytes) addr bytes }
     {
         match self.seat(addr / 4096) {
             Some(k) => {
@@ -239,9 +225,7 @@ impl Pages {
 
     /// Writes all bytes or none.
     pub fn write(&mut self, addr: u64, bytes: &[u8]) -> Result<(), Miss>
-        ensures answer {
-            result ≡ answer_of (blocked (table_of self.old) Kind.Write addr (length bytes.now))
-        }
+        ensures answer { result ≡ answer_of (blocked (table_of self.old) Kind.Write addr (length bytes.now)) }
         ensures ok { OnOk result (IsWritten self.old self.new addr bytes.now) }
         ensures err { OnErr result (self.new ≡ self.old) }
     {
@@ -274,9 +258,7 @@ impl Pages {
 
     /// Reads all bytes or none.
     pub fn read(&self, addr: u64, into: &mut [u8], kind: Kind) -> Result<(), Miss>
-        ensures answer {
-            result ≡ answer_of (blocked (table_of self.now) kind addr (length into.old))
-        }
+        ensures answer { result ≡ answer_of (blocked (table_of self.now) kind addr (length into.old)) }
         ensures ok { OnOk result (IsShown self.now addr (length into.old) into.new) }
         ensures err { OnErr result (into.new ≡ into.old) }
     {
@@ -290,11 +272,9 @@ impl Pages {
 
     // The slot of a page, or else a free one.
     fn seat_for(&self, page: u64) -> Option<u32>
-        ensures {
-            MatchOption result
-                ((table_of self.now page ≡ None) × (mapped_count self.now ≡ length self.now.slots))
-                (CanTake self.now.slots page)
-        }
+        ensures { MatchOption result
+            ((table_of self.now page ≡ None) × (mapped_count self.now ≡ length self.now.slots))
+            (CanTake self.now.slots page) }
     {
         match self.seat(page) {
             Some(k) => Some(k),
@@ -307,13 +287,9 @@ impl Pages {
         requires can { CanTake self.old.slots page k }
         requires low { page < 0x800000000 }
         ensures mapped { IsMapped self.old self.new page perms.0 }
-        ensures framed {
-            in_frame (table_of self.new page) ≡ (in_frame (table_of self.old page)
-            || nat_lt (resident_count self.old) self.old.frames)
-        }
-        ensures resident {
-            self.old.frames ≡ length self.old.slots → AllResident self.old → AllResident self.new
-        }
+        ensures framed { in_frame (table_of self.new page) ≡ (in_frame (table_of self.old page)
+            || nat_lt (resident_count self.old) self.old.frames) }
+        ensures resident { self.old.frames ≡ length self.old.slots → AllResident self.old → AllResident self.new }
         ensures room { resident_count self.new ≤ self.new.frames }
     {
         let buckets = self.slots.len();
@@ -345,21 +321,15 @@ impl Pages {
         requires page { addr % 4096 ≡ 0 }
         requires low { addr < 0x800000000000 }
         ensures ok { OnOk result (IsMapped self.old self.new (addr / 4096) perms.0) }
-        ensures full {
-            IsErr result ↔ ((table_of self.old (addr / 4096) ≡ None)
-            × (mapped_count self.old ≡ length self.old.slots))
-        }
+        ensures full { IsErr result ↔ ((table_of self.old (addr / 4096) ≡ None)
+            × (mapped_count self.old ≡ length self.old.slots)) }
         ensures err { OnErr result (self.new ≡ self.old) }
 
         // A page that was in a frame keeps it, and another gets one where one is free.
-        ensures framed {
-            OnOk result (in_frame (table_of self.new (addr / 4096))
+        ensures framed { OnOk result (in_frame (table_of self.new (addr / 4096))
             ≡ (in_frame (table_of self.old (addr / 4096))
-            || nat_lt (resident_count self.old) self.old.frames))
-        }
-        ensures resident {
-            self.old.frames ≡ length self.old.slots → AllResident self.old → AllResident self.new
-        }
+            || nat_lt (resident_count self.old) self.old.frames)) }
+        ensures resident { self.old.frames ≡ length self.old.slots → AllResident self.old → AllResident self.new }
         ensures room { OnOk result (resident_count self.new ≤ self.new.frames) }
     {
         match self.seat_for(addr / 4096) {
@@ -417,9 +387,7 @@ impl Pages {
 fn give_frame(slot: &mut Option<Entry>, free: &mut Vec<Frame>)
     requires { is_in_frame slot.old ≡ true → vec_len free.old < vec_capacity free.old }
     ensures emptied { slot.new ≡ None }
-    ensures count {
-        vec_len free.new ≡ vec_len free.old + (if is_in_frame slot.old then 1 else 0)
-    }
+    ensures count { vec_len free.new ≡ vec_len free.old + (if is_in_frame slot.old then 1 else 0) }
     ensures capacity { vec_capacity free.new ≡ vec_capacity free.old }
 {
     match release(slot) {
@@ -432,10 +400,8 @@ fn give_frame(slot: &mut Option<Entry>, free: &mut Vec<Frame>)
 fn take_frame(slot: &mut Option<Entry>, free: &mut Vec<Frame>) -> Option<Frame>
     ensures emptied { slot.new ≡ None }
     ensures frame { is_some result ≡ (is_in_frame slot.old || nat_lt 0 (vec_len free.old)) }
-    ensures count {
-        vec_len free.new + (if is_some result then 1 else 0)
-        ≡ vec_len free.old + (if is_in_frame slot.old then 1 else 0)
-    }
+    ensures count { vec_len free.new + (if is_some result then 1 else 0)
+        ≡ vec_len free.old + (if is_in_frame slot.old then 1 else 0) }
     ensures capacity { vec_capacity free.new ≡ vec_capacity free.old }
 {
     match release(slot) {
@@ -461,9 +427,7 @@ fn chunk_end(at: u64, done: usize, len: usize) -> usize
 
 // The first of two slots.
 fn earlier(first: Option<u32>, other: Option<u32>) -> Option<u32>
-    ensures {
-        option_map Away result ≡ or_else (option_map Away first) (option_map Away other)
-    }
+    ensures { option_map Away result ≡ or_else (option_map Away first) (option_map Away other) }
 {
     match first {
         Some(slot) => Some(slot),

@@ -84,8 +84,10 @@ fn load<H: Host>(host: &mut H, path: &str, into: &mut [u8]) -> Result<u64, Faile
     host.load(path, into)
 }
 
-fn store<H: Host>(host: &mut H, path: &str, bytes: &[u8]) -> Result<(), Failed> {
-    host.store(path, bytes)
+// It answers how many bytes were stored, as `load` does.
+fn store<H: Host>(host: &mut H, path: &str, bytes: &[u8]) -> Result<u64, Failed> {
+    host.store(path, bytes)?;
+    Ok(bytes.len() as u64)
 }
 
 fn open<H: Host>(host: &mut H, path: &str) -> Result<(), Failed>
@@ -111,59 +113,33 @@ fn get<H: Host>(host: &mut H, page: u32, into: &mut [u8]) -> Result<(), Failed>
 }
 
 #[test]
-fn each_call_of_a_host_fails_by_its_number(rt: HostRuntime) -> Result<(), Fail> {
-    let alloc = rt.alloc();
-    let files = vec![in alloc; file(alloc, "a", b"xyz")?]?;
-    let mut host = host_of(alloc, files, 20, 2, &[1, 3, 6, 8, 10])?;
-    let mut into = *b"....";
-    assert_eq!(rt; load(&mut host, "a", &mut into), Err(Failed));
-    assert_eq!(rt; load(&mut host, "a", &mut into), Ok(3));
-    assert_eq!(rt; &into, b"xyz.");
-    assert_eq!(rt; store(&mut host, "b", b"new"), Err(Failed));
-    assert_eq!(rt;
-        load(&mut host, "b", &mut into),
-        Err(Failed),
-        "no such file"
-    );
-    assert_eq!(rt; store(&mut host, "b", b"new"), Ok(()));
-    assert_eq!(rt; open(&mut host, "s"), Err(Failed));
-    open(&mut host, "s")?;
-    let page = page_of(alloc, 7)?;
-    let mut back = page_of(alloc, 0)?;
-    assert_eq!(rt; put(&mut host, 1, &page), Err(Failed));
-    assert_eq!(rt; put(&mut host, 1, &page), Ok(()));
-    assert_eq!(rt; get(&mut host, 1, &mut back), Err(Failed));
-    assert_eq!(rt; get(&mut host, 1, &mut back), Ok(()));
-    assert_eq!(rt; back.as_slice(), page.as_slice());
-    Ok(())
-}
-
-#[test]
-fn a_store_that_passes_the_room_changes_nothing(rt: HostRuntime) -> Result<(), Fail> {
+fn a_host_loads_and_stores_but_where_a_call_is_listed_or_passes_the_room(
+    rt: HostRuntime,
+) -> Result<(), Fail> {
     let alloc = rt.alloc();
     let files = vec![in alloc; file(alloc, "a", b"xyz")?, file(alloc, "b", b"")?]?;
-    let mut host = host_of(alloc, files, 8, 1, &[])?;
+    let mut host = host_of(alloc, files, 8, 1, &[1, 3])?;
     let mut into = *b"....";
-    assert_eq!(rt; store(&mut host, "b", b"1234"), Err(Failed));
-    assert_eq!(rt; load(&mut host, "a", &mut into), Ok(3));
-    assert_eq!(rt; &into, b"xyz.");
-    assert_eq!(rt; load(&mut host, "b", &mut into), Ok(0));
-    assert_eq!(rt;
-        store(&mut host, "a", b"123456"),
-        Ok(()),
-        "in place of its own bytes"
-    );
-    assert_eq!(rt;
-        load(&mut host, "a", &mut into),
-        Ok(5),
-        "longer than the buffer"
-    );
+    for (stores, path, bytes, want) in [
+        (false, "a", "", Err(Failed)),
+        (false, "a", "", Ok(3)),
+        (true, "b", "1", Err(Failed)),
+        (false, "b", "", Ok(0)),
+        (false, "c", "", Err(Failed)),
+        (true, "b", "1234", Err(Failed)),
+        (false, "b", "", Ok(0)),
+        (true, "a", "123456", Ok(6)),
+        (false, "a", "", Ok(5)),
+        (false, "b", "", Ok(0)),
+    ] {
+        let done = if stores {
+            store(&mut host, path, bytes.as_bytes())
+        } else {
+            load(&mut host, path, &mut into)
+        };
+        assert_eq!(rt; done, want, "{path} {bytes}");
+    }
     assert_eq!(rt; &into, b"1234");
-    assert_eq!(rt;
-        open(&mut host, "s"),
-        Err(Failed),
-        "more pages than there are"
-    );
     Ok(())
 }
 
@@ -173,48 +149,75 @@ fn a_sixty_fifth_file_is_refused(rt: HostRuntime) -> Result<(), Fail> {
     let mut host = host_of(alloc, Vec::new(alloc), 1000, 1, &[])?;
     for number in 0..64u8 {
         let path = format!(in alloc; "{number}")?;
-        assert_eq!(rt; store(&mut host, &path, &[number]), Ok(()));
+        assert_eq!(rt; store(&mut host, &path, &[number]), Ok(1));
     }
-    let mut into = *b"....";
     assert_eq!(rt; store(&mut host, "64", b""), Err(Failed));
-    assert_eq!(rt; store(&mut host, "17", b"new"), Ok(()));
-    assert_eq!(rt; load(&mut host, "17", &mut into), Ok(3));
-    assert_eq!(rt; &into, b"new.");
+    assert_eq!(rt; store(&mut host, "17", b"new"), Ok(3));
+    let mut into = *b"....";
     assert_eq!(rt; load(&mut host, "16", &mut into), Ok(1));
     assert_eq!(rt; into[0], 16);
     Ok(())
 }
 
 #[test]
-fn a_host_over_files_gives_back_what_it_was_given(rt: HostRuntime) -> Result<(), Fail> {
-    let folder = env::temp_dir(&rt)?;
+fn a_swap_gives_its_page_back_but_where_a_call_is_listed(rt: HostRuntime) -> Result<(), Fail> {
+    let alloc = rt.alloc();
+    let mut host = host_of(alloc, Vec::new(alloc), 0, 2, &[1, 3, 5])?;
+    let page = page_of(alloc, 7)?;
+    let mut back = page_of(alloc, 0)?;
+    assert_eq!(rt; host.swap_open("s", 2), Err(Failed));
+    open(&mut host, "s")?;
+    assert_eq!(rt; put(&mut host, 1, &page), Err(Failed));
+    put(&mut host, 1, &page)?;
+    assert_eq!(rt; get(&mut host, 1, &mut back), Err(Failed));
+    get(&mut host, 1, &mut back)?;
+    assert_eq!(rt; back.as_slice(), page.as_slice());
+    Ok(())
+}
+
+// A path of this process's own among the temporary files.
+fn own_path(rt: &HostRuntime, name: &str) -> io::Result<String> {
+    let folder = env::temp_dir(rt)?;
     let id = process::id(rt.process());
-    let path = format!(in rt.alloc(); "{}/host_edge_{id}", folder.as_str())?;
+    Ok(format!(in rt.alloc(); "{}/host_edge_{id}_{name}", folder.as_str())?)
+}
+
+#[test]
+fn a_host_over_files_loads_what_it_stored(rt: HostRuntime) -> Result<(), Fail> {
+    let path = own_path(&rt, "file")?;
     let mut host = FileHost::new(&rt);
     let mut into = *b"......";
-    assert_eq!(rt;
-        load(&mut host, &path, &mut into),
-        Err(Failed),
-        "no such file"
-    );
-    assert_eq!(rt; store(&mut host, &path, b"hello\n"), Ok(()));
-    assert_eq!(rt;
-        load(&mut host, &path, &mut into[..5]),
-        Ok(6),
-        "longer than the buffer"
-    );
-    assert_eq!(rt; &into, b"hello.");
-    assert_eq!(rt; store(&mut host, &path, b"abc"), Ok(()));
-    assert_eq!(rt; load(&mut host, &path, &mut into), Ok(3));
-    assert_eq!(rt; &into, b"abclo.");
+    for (stores, bytes, room, want, front) in [
+        (false, "", 6, Err(Failed), b"......"),
+        (true, "hello\n", 6, Ok(6), b"......"),
+        (false, "", 5, Ok(6), b"hello."),
+        (true, "abc", 6, Ok(3), b"hello."),
+        (false, "", 6, Ok(3), b"abclo."),
+    ] {
+        let done = if stores {
+            store(&mut host, &path, bytes.as_bytes())
+        } else {
+            load(&mut host, &path, &mut into[..room])
+        };
+        assert_eq!(rt; done, want, "{bytes} {room}");
+        assert_eq!(rt; &into, front);
+    }
+    fs::remove_file(&rt, &path)?;
+    Ok(())
+}
+
+#[test]
+fn a_swap_over_a_file_gives_its_pages_back(rt: HostRuntime) -> Result<(), Fail> {
+    let path = own_path(&rt, "swap")?;
+    let mut host = FileHost::new(&rt);
     let (first, last) = (page_of(rt.alloc(), 1)?, page_of(rt.alloc(), 3)?);
     let mut back = page_of(rt.alloc(), 0)?;
     open(&mut host, &path)?;
-    assert_eq!(rt; put(&mut host, 1, &last), Ok(()));
-    assert_eq!(rt; put(&mut host, 0, &first), Ok(()));
-    assert_eq!(rt; get(&mut host, 1, &mut back), Ok(()));
+    put(&mut host, 1, &last)?;
+    put(&mut host, 0, &first)?;
+    get(&mut host, 1, &mut back)?;
     assert_eq!(rt; back.as_slice(), last.as_slice());
-    assert_eq!(rt; get(&mut host, 0, &mut back), Ok(()));
+    get(&mut host, 0, &mut back)?;
     assert_eq!(rt; back.as_slice(), first.as_slice());
     fs::remove_file(&rt, &path)?;
     Ok(())
@@ -240,9 +243,7 @@ impl Write for Narrow {
 
 #[test]
 fn streams_over_files_move_bytes_in_parts(rt: HostRuntime) -> Result<(), Fail> {
-    let folder = env::temp_dir(&rt)?;
-    let id = process::id(rt.process());
-    let path = format!(in rt.alloc(); "{}/host_edge_stream_{id}", folder.as_str())?;
+    let path = own_path(&rt, "stream")?;
     let mut sink = FileSink::new(File::create(&rt, path.as_str())?);
     assert_eq!(rt; sink.put(b"abc"), Ok(()));
     assert_eq!(rt; sink.put(b"de"), Ok(()));

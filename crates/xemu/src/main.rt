@@ -3,9 +3,8 @@
 
 use host_edge::{FileHost, FileSink, FileSource};
 use std::alloc::Global;
-use std::env;
-use std::io;
 use std::process::ExitCode;
+use std::{env, io};
 use xemu_top::emulate;
 
 /// The status where the words can't be had: memory is wanting, or one of them isn't text.
@@ -29,6 +28,13 @@ fn main(rt: HostRuntime) -> ExitCode {
     let mut input = FileSource::new(rt.stdin());
     let mut out = FileSink::new(rt.stdout());
     let mut err = FileSink::new(rt.stderr());
-    let ended = emulate(rt.alloc(), &words, &mut host, &mut input, &mut out, &mut err);
+    let ended = emulate(
+        rt.alloc(),
+        &words,
+        &mut host,
+        &mut input,
+        &mut out,
+        &mut err,
+    );
     ExitCode::from(ended.status)
 }

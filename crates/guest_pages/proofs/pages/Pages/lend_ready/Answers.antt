@@ -28,7 +28,7 @@ returns c =
     let read = get_or_read c.self.inside.slots.items c.in-Some.k c.index_mut-slot.result.now c.in-Some.ensures.within c.index_mut-slot.ensures.value None in
     let entry = entry_there (get_or c.self.inside.slots.items c.in-Some.k None) _ c.in-Some.ensures.here in
     let held = ready_held (record { frames = c.self.inside.frames; slots = c.self.inside.slots.items }) Write c.args.addr c.in-Some.k c.args.len c.in-Some.ensures c.requires.some
-        (rw (← c.self.view_is) at c.requires.ready) (rw read at c.lend.ensures.whole) in (
+    (rw (← c.self.view_is) at c.requires.ready) (rw read at c.lend.ensures.whole) in (
       (
         refl,
         λ w.
