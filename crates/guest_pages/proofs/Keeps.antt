@@ -1,5 +1,5 @@
 -- Lemmas on what the pages keep of their slots, frames and lists.
-use Rattle.std.proofs.Common.{◌≡◌, ℕ, ◌+◌, ◌<◌, ◌≤◌, List, Bool, true, cond, Option, Some, None, length, get_or, set, refl, ◌∙◌, arith, count_by}
+use Rattle.std.proofs.Common.{◌≡◌, ℕ, ◌+◌, ◌<◌, ◌≤◌, List, Bool, cond, Option, Some, None, length, get_or, set, refl, ◌∙◌, arith, count_by}
 use Rattle.guest_pages.specs.declared.lists.Lists.{Lists}
 use Rattle.guest_pages.specs.declared.entry.Entry.{Entry}
 use Rattle.guest_pages.specs.Entry.{is_in_frame, is_resident}

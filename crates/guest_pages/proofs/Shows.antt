@@ -1,6 +1,6 @@
 -- Lemmas on what a page shows.
 use Rattle.std.proofs.Common.{◌≡◌, ℕ, ◌+◌, ◌-◌, ◌/◌, ◌%◌, ◌<◌, ◌≤◌, List, ◌++◌, Bool, true, false, cond, Option, Some, None, length, get_or, refl, sym, ap, ◌∙◌, arith, take, drop, slice_range}
-use Rattle.std.proofs.lemmas.List.{length-append, length-take, length-drop, take_all}
+use Rattle.std.proofs.lemmas.List.{length-append, length-take, length-drop}
 use Rattle.machine_state.specs.declared.kinds.Miss.TheVariants.{Away}
 use Rattle.machine_state.specs.Memory.{Swap, bytes_at}
 use Rattle.machine_state.proofs.MemoryLemmas.{bytes_at-append, bytes_at_listed, bytes_at-zero}

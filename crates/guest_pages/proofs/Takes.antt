@@ -11,7 +11,7 @@ use Rattle.guest_pages.specs.declared.entry.Mark.{Mark}
 use Rattle.guest_pages.specs.Table.{Mapped, Table, with_entry}
 use Rattle.guest_pages.specs.Pages.{PagesValue, Seat, mapped_of, table_of, seat_byte, byte_of, mark_of, mapped_count}
 use Rattle.guest_pages.specs.Changes.{KeepsSize, IsUnmapped, Marks, with_mark}
-use Rattle.guest_pages.specs.Slots.{CanTake, IsSeatOf, AreApart, AreShared}
+use Rattle.guest_pages.specs.Slots.{CanTake, IsSeatOf, AreApart}
 use Rattle.guest_pages.proofs.Seats.{seat_at, seek_at, seek_taken, seek_emptied}
 
 abbrev pub taken : PagesValue → ℕ → Entry → PagesValue

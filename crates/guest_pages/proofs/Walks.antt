@@ -1,5 +1,5 @@
 -- Lemmas on an access that goes along pages.
-use Rattle.std.proofs.Common.{◌≡◌, ℕ, ◌+◌, ◌-◌, ◌/◌, ◌%◌, ◌<◌, ◌≤◌, Option, Some, None, Result, Ok, OnOk, zero, suc, refl, sym, ap, ◌∙◌, arith, zero-add, add-zero}
+use Rattle.std.proofs.Common.{◌≡◌, ℕ, ◌+◌, ◌-◌, ◌/◌, ◌%◌, ◌<◌, ◌≤◌, Option, Some, None, zero, suc, refl, sym, ap, ◌∙◌, arith, zero-add, add-zero}
 use Rattle.machine_state.specs.declared.kinds.Kind.{Kind}
 use Rattle.machine_state.specs.declared.kinds.Miss.{Miss}
 use Rattle.machine_state.specs.Memory.{first_miss, miss_at, or_else}
@@ -8,7 +8,7 @@ use Rattle.machine_state.specs.declared.kinds.Miss.TheVariants.{Away}
 use Rattle.std.specs.Option.{option_map}
 use Rattle.guest_pages.specs.Pages.{PagesValue, table_of}
 use Rattle.guest_pages.specs.Slots.{IsWalked}
-use Rattle.guest_pages.specs.Table.{Table, perms_in, away_at, first_away, blocked, answer_of}
+use Rattle.guest_pages.specs.Table.{Table, perms_in, away_at, first_away, blocked}
 
 pub first_away-zero : (table : Table) (addr : ℕ) → first_away table addr 0 ≡ None
 unfolding first_away

@@ -172,10 +172,7 @@ pub(crate) fn blank(frame: Option<Frame>) -> Place
     ensures zeros { IsZeros result }
 {
     match frame {
-        Some(mut frame) => {
-            frame.clear();
-            Place::Resident(frame, Mark::Fresh)
-        }
+        Some(frame) => Place::Resident(frame.cleared(), Mark::Fresh),
         None => Place::Zeros,
     }
 }

@@ -50,10 +50,18 @@ impl Frame {
         self.bytes.slice_mut(at..at + len)
     }
 
+    /// Fills the frame with zeros.
     pub(crate) fn clear(&mut self)
-        ensures zeros { All (λ byte. byte ≡ 0) self.new }
-        ensures whole { length self.new ≡ 4096 }
+        ensures { All (λ byte. byte ≡ 0) self.new }
     {
         self.bytes.fill(0);
+    }
+
+    /// The frame filled with zeros.
+    pub(crate) fn cleared(mut self) -> Frame
+        ensures { All (λ byte. byte ≡ 0) result }
+    {
+        self.clear();
+        self
     }
 }

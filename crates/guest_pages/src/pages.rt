@@ -466,3 +466,6 @@ fn list_of(slot: &Option<Entry>, buckets: usize) -> usize
         None => buckets,
     }
 }
+
+#[cfg(test)]
+mod tests;

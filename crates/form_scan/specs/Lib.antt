@@ -1,0 +1,4 @@
+pub mod Front
+pub mod Payload
+pub mod Shaped
+pub mod Reading

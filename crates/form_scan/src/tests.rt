@@ -1,0 +1,207 @@
+//! Known byte lists. What is expected is the SDM's.
+use crate::*;
+
+/// What the test looks at.
+#[derive(Clone, Copy, Debug, PartialEq, Eq)]
+struct Seen {
+    len: u8,
+    rex: bool,
+    w: bool,
+    b: u8,
+    rep: u8,
+    segment: u8,
+    disp: i64,
+    imm: u64,
+}
+
+fn told_of(bytes: &[u8]) -> Option<Seen> {
+    match scan(bytes) {
+        Scan::Whole(f, len) => Some(Seen {
+            len,
+            rex: f.rex,
+            w: f.w,
+            b: f.b,
+            rep: f.rep,
+            segment: f.segment,
+            disp: f.disp,
+            imm: f.imm,
+        }),
+        Scan::Short | Scan::Dead => None,
+    }
+}
+
+/// An instruction of which only the length is not 0 or false.
+fn plain(len: u8) -> Seen {
+    Seen {
+        len,
+        rex: false,
+        w: false,
+        b: 0,
+        rep: 0,
+        segment: 0,
+        disp: 0,
+        imm: 0,
+    }
+}
+
+#[test]
+fn known_instructions_are_whole(rt: HostRuntime) {
+    let none = plain(0);
+    let rows: [(&[u8], Seen); 20] = [
+        (&[0x31, 0xff], plain(2)),
+        (
+            &[0xf3, 0xc3],
+            Seen {
+                rep: 0xf3,
+                ..plain(2)
+            },
+        ),
+        // Of F2 and F3, and of 64 and 65, the last counts.
+        (
+            &[0xf3, 0xf2, 0xc3],
+            Seen {
+                rep: 0xf2,
+                ..plain(3)
+            },
+        ),
+        (
+            &[0x65, 0x64, 0x8b, 0x00],
+            Seen {
+                segment: 0x64,
+                ..plain(4)
+            },
+        ),
+        (&[0x66, 0x2e, 0x0f, 0x1f, 0x84, 0, 0, 0, 0, 0], plain(10)),
+        (
+            &[0xf3, 0x0f, 0x1e, 0xfa],
+            Seen {
+                rep: 0xf3,
+                ..plain(4)
+            },
+        ),
+        (
+            &[0x48, 0xb8, 1, 2, 3, 4, 5, 6, 7, 8],
+            Seen {
+                rex: true,
+                w: true,
+                imm: 0x0807_0605_0403_0201,
+                ..plain(10)
+            },
+        ),
+        (&[0xb8, 1, 0, 0, 0], Seen { imm: 1, ..plain(5) }),
+        (
+            &[0x66, 0xb8, 0x34, 0x12, 0, 0],
+            Seen {
+                imm: 0x1234,
+                ..plain(4)
+            },
+        ),
+        (&[0xb4, 0x05], Seen { imm: 5, ..plain(2) }),
+        (
+            &[0x40, 0xb4, 0x05],
+            Seen {
+                rex: true,
+                imm: 5,
+                ..plain(3)
+            },
+        ),
+        // A REX byte before a prefix does not count, and of two the second does.
+        (
+            &[0x48, 0x66, 0xb8, 0x34, 0x12],
+            Seen {
+                imm: 0x1234,
+                ..plain(5)
+            },
+        ),
+        (
+            &[0x48, 0x41, 0xb8, 1, 0, 0, 0],
+            Seen {
+                rex: true,
+                b: 1,
+                imm: 1,
+                ..plain(7)
+            },
+        ),
+        // A SIB byte without a base, and an address relative to rip.
+        (
+            &[0x8b, 0x04, 0x25, 0, 0x10, 0, 0],
+            Seen {
+                disp: 0x1000,
+                ..plain(7)
+            },
+        ),
+        (
+            &[0x48, 0x8d, 0x35, 0x10, 0, 0, 0],
+            Seen {
+                rex: true,
+                w: true,
+                disp: 0x10,
+                ..plain(7)
+            },
+        ),
+        (
+            &[0x8b, 0x45, 0xf8],
+            Seen {
+                disp: -8,
+                ..plain(3)
+            },
+        ),
+        (
+            &[0x8b, 0x85, 0xf8, 0xff, 0xff, 0xff],
+            Seen {
+                disp: -8,
+                ..plain(6)
+            },
+        ),
+        // An address of 8 bytes, and with 67 of 4.
+        (
+            &[0xa1, 0, 0, 1, 0, 0, 0, 0, 0],
+            Seen {
+                imm: 0x1_0000,
+                ..plain(9)
+            },
+        ),
+        (
+            &[0x67, 0xa1, 0, 0, 1, 0, 0],
+            Seen {
+                imm: 0x1_0000,
+                ..plain(6)
+            },
+        ),
+        (
+            &[
+                0x66, 0x66, 0x66, 0x66, 0x66, 0x66, 0x66, 0x66, 0x66, 0x66, 0x66, 0x66, 0x66, 0x66,
+                0x90,
+            ],
+            plain(15),
+        ),
+    ];
+    for (bytes, want) in rows {
+        assert_eq!(rt; told_of(bytes).unwrap_or(none), want, "at {bytes:?}");
+    }
+}
+
+#[test]
+fn cut_and_unknown_bytes_are_told_apart(rt: HostRuntime) {
+    let cut: [&[u8]; 7] = [
+        &[],
+        &[0x66, 0x66, 0x66],
+        &[0x66; 16],
+        &[0x0f],
+        &[0x8b, 0x04],
+        &[0x8b, 0x04, 0x25, 0, 0x10, 0],
+        &[0x48, 0xb8, 1, 2, 3, 4, 5, 6, 7],
+    ];
+    for bytes in cut {
+        assert!(rt; matches!(scan(bytes), Scan::Short), "at {bytes:?}");
+    }
+    let unknown: [&[u8]; 4] = [
+        &[0x06],
+        &[0x0f, 0x0b],
+        &[0x0f, 0x58, 0xc1],
+        &[0x66, 0x48, 0x27],
+    ];
+    for bytes in unknown {
+        assert!(rt; matches!(scan(bytes), Scan::Dead), "at {bytes:?}");
+    }
+}

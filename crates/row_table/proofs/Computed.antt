@@ -1,0 +1,48 @@
+-- What the checker computes over the whole table. All else follows from these by lemmas.
+use Rattle.std.proofs.Common.{◌≡◌, true, refl, sym, subst, length}
+use Rattle.row_table.specs.Families.{listing, one_byte, two_byte}
+use Rattle.row_table.specs.Rows.{rows, table, starts, sorted, insert_row}
+use Rattle.row_table.proofs.Index.{placed, rises, at_most}
+use Rattle.row_table.proofs.Pairs.{ordered, passes_near, near, together}
+
+-- the rows of the definition are those of the code
+pub rows-table : rows ≡ table
+unfolding rows listing one_byte two_byte sorted insert_row table
+rows-table = refl
+
+table-placed : placed starts 0 table ≡ true
+unfolding placed starts table
+table-placed = refl
+
+pub starts-rise : rises 0 starts ≡ true
+unfolding rises starts
+starts-rise = refl
+
+table-within : at_most (length table) starts ≡ true
+unfolding at_most starts table
+table-within = refl
+
+pub starts-length : length starts ≡ 3073
+unfolding starts
+starts-length = refl
+
+table-ordered : ordered 0 table ≡ true
+unfolding ordered table
+table-ordered = refl
+
+table-together : near together table ≡ true
+unfolding near passes_near table
+table-together = refl
+
+-- ---- the same of the rows of the definition
+pub rows-placed : placed starts 0 rows ≡ true
+rows-placed = subst (λ t. placed starts 0 t ≡ true) (sym rows-table) table-placed
+
+pub starts-within : at_most (length rows) starts ≡ true
+starts-within = subst (λ t. at_most (length t) starts ≡ true) (sym rows-table) table-within
+
+pub rows-ordered : ordered 0 rows ≡ true
+rows-ordered = subst (λ t. ordered 0 t ≡ true) (sym rows-table) table-ordered
+
+pub rows-together : near together rows ≡ true
+rows-together = subst (λ t. near together t ≡ true) (sym rows-table) table-together

@@ -1,0 +1,86 @@
+-- The words in which the listing of the rows is written.
+use Rattle.std.specs.Prelude.{ℕ, zero, suc, ◌+◌, ◌*◌, true, false, Some, None, List, [], ◌∷◌, map}
+use Rattle.row_table.specs.declared.kinds.Class.TheVariants.{Legacy}
+use Rattle.row_table.specs.declared.kinds.Prefix.TheVariants.{Unmarked, Np}
+use Rattle.row_table.specs.declared.kinds.Operands.{Operands}
+use Rattle.row_table.specs.declared.kinds.Operands.TheVariants.{EbGb, EvGv, GbEb, GvEv, AlIb, RaxIz, EbIb, EvIb, EvIz}
+use Rattle.row_table.specs.declared.kinds.Tuple.TheVariants.{NoTuple}
+use Rattle.row_table.specs.declared.kinds.MaskKind.TheVariants.{NoMask}
+use Rattle.row_table.specs.declared.kinds.Align.TheVariants.{Free}
+use Rattle.row_table.specs.declared.kinds.Level.TheVariants.{V2}
+use Rattle.row_table.specs.declared.operations.Op.{Op}
+use Rattle.row_table.specs.declared.kinds.Row.{Row}
+
+-- a legacy row of the one-byte map, for every processor, without a mark: its opcode, operands, width in
+-- bits (0 for the operand size) and operation
+abbrev pub scalar : ℕ → Operands → ℕ → Op → Row
+scalar opcode operands width op = record {
+  class = Legacy;
+  map = 0;
+  prefix = Unmarked;
+  opcode = opcode;
+  digit = None;
+  w = None;
+  lengths = 1;
+  operands = operands;
+  width = width;
+  tuple = NoTuple;
+  mask = NoMask;
+  whole = false;
+  align = Free;
+  level = V2;
+  op = op;
+}
+
+-- by operand size
+abbrev pub sized : ℕ → Operands → Op → Row
+sized opcode operands op = scalar opcode operands 0 op
+
+-- of 8 bits
+abbrev pub byte : ℕ → Operands → Op → Row
+byte opcode operands op = scalar opcode operands 8 op
+
+-- of 64 bits, whatever the prefixes, or without an operand of a size of its own
+abbrev pub always : ℕ → Operands → Op → Row
+always opcode operands op = scalar opcode operands 64 op
+
+-- with ModRM.reg as more of the opcode, as /digit
+abbrev pub digit : ℕ → Row → Row
+digit n r = record r { digit = Some n }
+
+-- with the mark NP: neither 66 nor F2 nor F3
+abbrev pub np : Row → Row
+np r = record r { prefix = Np }
+
+-- a row for each of n opcodes, from the row's own up
+abbrev pub opcodes : ℕ → Row → List Row
+opcodes zero r = []
+opcodes (suc n) r = r ∷ opcodes n (record r { opcode = r.opcode + 1 })
+
+-- a row for each register in the low three bits of the opcode, as 50+r
+abbrev pub registers : Row → List Row
+registers r = opcodes 8 r
+
+-- a row for each condition in the low four bits of the opcode, as 70+cc
+abbrev pub conditions : Row → List Row
+conditions r = opcodes 16 r
+
+-- without W 32 bits and with W 64
+abbrev pub by_w : Row → List Row
+by_w r = record r { w = Some false; width = 32 } ∷ record r { w = Some true; width = 64 } ∷ []
+
+-- the six rows of an arithmetic operation i: 00+8i to 05+8i
+abbrev pub arithmetic : ℕ → Op → List Row
+arithmetic i op =
+    byte (8 * i) EbGb op ∷ sized (8 * i + 1) EvGv op
+    ∷ byte (8 * i + 2) GbEb op ∷ sized (8 * i + 3) GvEv op
+    ∷ byte (8 * i + 4) AlIb op ∷ sized (8 * i + 5) RaxIz op ∷ []
+
+-- the three rows of an arithmetic operation i with an immediate: 80, 81, 83 /i
+abbrev pub with_immediate : ℕ → Op → List Row
+with_immediate i op =
+    digit i (byte 0x80 EbIb op) ∷ digit i (sized 0x81 EvIz op) ∷ digit i (sized 0x83 EvIb op) ∷ []
+
+-- the rows of another map than the one-byte map
+abbrev pub in_map : ℕ → List Row → List Row
+in_map m rs = map (λ (r : Row). record r { map = m }) rs

@@ -1,0 +1,21 @@
+//! The instruction table: each row that the machine can perform, the row of an instruction's fields, and
+//! which bytes follow an opcode.
+#![tactic(auto)]
+
+mod finding;
+mod kinds;
+mod matching;
+mod operations;
+mod table;
+
+pub use finding::{find, is_used, row, row_count, shape};
+pub use kinds::{
+    Align, Class, Decoded, Fields, Level, MaskKind, Operands, Prefix, Row, Shape, Tuple,
+};
+pub use operations::{
+    BitOp, CoreOp, CrossOp, GatherOp, GprOp, LaneOp, MacOp, MaskOp, Op, StringOp, VectorOp,
+    WidthOp, XsaveOp,
+};
+
+#[cfg(test)]
+mod tests;

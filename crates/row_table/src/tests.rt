@@ -1,0 +1,82 @@
+//! The rows of known instructions. What is expected is the SDM's.
+use crate::*;
+
+/// The row of a legacy instruction with the last F2 or F3, 66, W, map, opcode and ModRM byte.
+fn found(rep: u8, p66: bool, w: bool, map: u8, opcode: u8, modrm: Option<u8>) -> Option<Row> {
+    let fields = Fields {
+        class: Class::Legacy,
+        segment: 0,
+        lock: false,
+        rep,
+        p66,
+        p67: false,
+        rex: w,
+        w,
+        r: 0,
+        x: 0,
+        b: 0,
+        v: 0,
+        l: 0,
+        pp: 0,
+        map,
+        opcode,
+        modrm,
+        sib: None,
+        disp: 0,
+        disp_len: 0,
+        imm: 0,
+        imm_len: 0,
+        z: false,
+        bc: false,
+        aaa: 0,
+    };
+    Some(row(find(&fields)?))
+}
+
+fn is_nop(row: Option<Row>) -> bool {
+    match row {
+        None => false,
+        Some(row) => matches!(row.op, Op::Core(CoreOp::Nop)),
+    }
+}
+
+fn is_bswap(row: Option<Row>, width: u8) -> bool {
+    match row {
+        None => false,
+        Some(row) => matches!(row.op, Op::Core(CoreOp::Bswap)) && row.width == width,
+    }
+}
+
+#[test]
+fn known_instructions_have_their_rows(rt: HostRuntime) {
+    // LFENCE is 0F AE E8, and with 66 or F3 another instruction.
+    assert!(rt; is_nop(found(0, false, false, 1, 0xae, Some(0xe8))));
+    assert!(rt; found(0, true, false, 1, 0xae, Some(0xe8)).is_none());
+    assert!(rt; found(0xf3, false, false, 1, 0xae, Some(0xe8)).is_none());
+    // ENDBR64 is F3 0F 1E FA, in a row that ignores F3.
+    assert!(rt; is_nop(found(0xf3, false, false, 1, 0x1e, Some(0xfa))));
+    assert!(rt; is_bswap(found(0, false, false, 1, 0xc8, None), 32));
+    assert!(rt; is_bswap(found(0, false, true, 1, 0xc8, None), 64));
+    // FF /3 is a far call, 8D needs memory, 0F 0B is UD2.
+    assert!(rt; found(0, false, false, 0, 0xff, Some(0x18)).is_none());
+    assert!(rt; found(0, false, true, 0, 0x8d, Some(0xf5)).is_none());
+    assert!(rt; found(0, false, false, 1, 0x0b, None).is_none());
+}
+
+#[test]
+fn opcodes_have_their_shapes(rt: HostRuntime) {
+    for (map, opcode, want) in [
+        (0, 0xb8, Some((false, 11))),
+        (0, 0xa1, Some((false, 12))),
+        (0, 0xc2, Some((false, 2))),
+        (0, 0xe8, Some((false, 4))),
+        (0, 0x81, Some((true, 10))),
+        (0, 0x83, Some((true, 1))),
+        (1, 0x1f, Some((true, 0))),
+        (1, 0x0b, None),
+    ] {
+        let found = shape(Class::Legacy, map, opcode).map(|s| (s.modrm, s.imm));
+        assert!(rt; found == want, "at {opcode} of map {map}");
+    }
+    assert!(rt; is_used(Class::Legacy, 1) && !is_used(Class::Evex, 0));
+}
