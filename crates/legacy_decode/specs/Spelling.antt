@@ -1,0 +1,31 @@
+-- When the fields of a legacy instruction spell a row, and the instruction that they are then.
+use Rattle.std.specs.Prelude.{◌≡◌, ℕ, ℤ, nat_lt, Bool, true, ◌&&◌, Some, slice_get}
+use Rattle.row_table.specs.declared.kinds.Row.{Row}
+use Rattle.row_table.specs.declared.kinds.Fields.{Fields}
+use Rattle.row_table.specs.declared.kinds.Decoded.{Decoded}
+use Rattle.row_table.specs.Rows.{rows}
+use Rattle.row_table.specs.Matching.{Matches}
+use Rattle.legacy_decode.specs.Lock.{lock_fits}
+
+-- No register number is above 15: it has three bits in ModRM, SIB or the opcode, and above them one bit of
+-- REX (Intel SDM volume 2, section 2.2.1.2).
+abbrev pub registers_fit : Fields → Bool
+registers_fit f = nat_lt f.r 2 && (nat_lt f.x 2 && nat_lt f.b 2)
+
+-- The fields spell the row with that index: they match it, LOCK is allowed where it is there, and the
+-- registers exist. That F2 and F3 without a meaning are ignored, that a row with a mark goes before one
+-- without, and that a row may want one exact ModRM byte, is in `Matches`.
+pub record Spells (f : Fields) (i : ℕ) : Type 0 where
+  pub matches : Matches rows f i
+  pub lock : (r : Row) → slice_get rows i ≡ Some r → lock_fits r f ≡ true
+  pub registers : registers_fit f ≡ true
+
+-- the displacement in bytes: that of the instruction's bytes as it is (Intel SDM volume 2, section 2.1.5)
+abbrev pub displacement : Fields → ℤ
+displacement f = f.disp
+
+-- the instruction is that of the fields: these fields, a row that they spell, and their displacement
+pub record IsDecoded (f : Fields) (d : Decoded) : Type 0 where
+  pub fields : d.fields ≡ f
+  pub row : Spells f d.row
+  pub disp : d.disp ≡ displacement f

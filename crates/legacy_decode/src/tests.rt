@@ -1,0 +1,94 @@
+//! The rules beyond the table's. What is expected is the SDM's.
+use crate::*;
+use row_table::{Class, CoreOp, Fields, GprOp, Op, row};
+
+/// The fields of a legacy instruction of the one-byte map with this opcode and ModRM byte, without prefixes.
+fn plain(opcode: u8, modrm: Option<u8>) -> Fields {
+    Fields {
+        class: Class::Legacy,
+        segment: 0,
+        lock: false,
+        rep: 0,
+        p66: false,
+        p67: false,
+        rex: false,
+        w: false,
+        r: 0,
+        x: 0,
+        b: 0,
+        v: 0,
+        l: 0,
+        pp: 0,
+        map: 0,
+        opcode,
+        modrm,
+        sib: None,
+        disp: 0,
+        disp_len: 0,
+        imm: 0,
+        imm_len: 0,
+        z: false,
+        bc: false,
+        aaa: 0,
+    }
+}
+
+/// The same with LOCK.
+fn locked(opcode: u8, modrm: Option<u8>) -> Fields {
+    Fields {
+        lock: true,
+        ..plain(opcode, modrm)
+    }
+}
+
+/// The name of the operation, of those that the test meets, and the displacement.
+fn matched(fields: &Fields) -> Option<(&'static str, i64)> {
+    let decoded = match fields.class {
+        Class::Legacy => match_legacy(fields)?,
+        Class::Vex | Class::Evex => return None,
+    };
+    let name = match row(decoded.row).op {
+        Op::Core(CoreOp::Mov) => "mov",
+        Op::Core(CoreOp::Ret) => "ret",
+        Op::Core(CoreOp::Xchg) => "xchg",
+        Op::Gpr(GprOp::Xor) => "xor",
+        _ => "another",
+    };
+    Some((name, decoded.disp))
+}
+
+#[test]
+fn rows_are_spelled_by_the_rules_on_prefixes_and_registers(rt: HostRuntime) {
+    let f3 = Fields {
+        rep: 0xf3,
+        ..plain(0xc3, None)
+    };
+    let below = Fields {
+        disp: -8,
+        disp_len: 1,
+        ..plain(0x8b, Some(0x45))
+    };
+    let r15 = Fields {
+        rex: true,
+        r: 1,
+        b: 1,
+        ..plain(0x31, Some(0xff))
+    };
+    let register_23 = Fields { b: 2, ..r15 };
+    for (bytes, fields, want) in [
+        ("f3 c3", f3, Some(("ret", 0))),
+        ("8b 45 f8", below, Some(("mov", -8))),
+        ("45 31 ff, xor r15d, r15d", r15, Some(("xor", 0))),
+        ("a register 23", register_23, None),
+        ("f0 31 00", locked(0x31, Some(0x00)), Some(("xor", 0))),
+        ("f0 83 30 01", locked(0x83, Some(0x30)), Some(("xor", 0))),
+        ("f0 86 00", locked(0x86, Some(0x00)), Some(("xchg", 0))),
+        ("f0 31 c0, to a register", locked(0x31, Some(0xc0)), None),
+        ("f0 33 00, from memory", locked(0x33, Some(0x00)), None),
+        ("f0 91, of registers", locked(0x91, None), None),
+        ("f0 89 00, mov", locked(0x89, Some(0x00)), None),
+        ("f0 c3", locked(0xc3, None), None),
+    ] {
+        assert_eq!(rt; matched(&fields), want, "at {bytes}");
+    }
+}

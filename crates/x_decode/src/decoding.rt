@@ -1,0 +1,47 @@
+//! Which instruction some bytes begin with.
+ghost use Rattle.std.specs.Prelude.{◌≡◌, ◌↔◌, ◌<◌, ℕ, length, IfSome};
+ghost use Rattle.row_table.specs.declared.kinds.Decoded.{Decoded as AnyDecoded};
+ghost use Rattle.row_table.specs.Rows.{rows};
+ghost use Rattle.legacy_decode.specs.Spelling.{IsDecoded};
+ghost use Rattle.x_decode.specs.Seeing.{IsInstr, IsShort, IsTooLong, IsBad, InRange};
+
+use crate::kinds::Seen;
+use form_scan::{Scan, scan};
+use legacy_decode::match_legacy;
+use row_table::{Class, Decoded, Fields};
+
+/// An instruction's bytes at most (Intel SDM volume 2, section 2.3.11).
+const LIMIT: usize = 15;
+
+/// The instruction with these fields, by the rules of their class.
+fn matched(fields: &Fields) -> Option<Decoded>
+    ensures within { IfSome result (λ d. d.row < length rows) }
+    ensures some { (d : AnyDecoded) → (result ≡ Some d) ↔ IsDecoded fields.now d }
+{
+    match fields.class {
+        Class::Legacy => match_legacy(fields),
+        // The table has no row of these yet.
+        Class::Vex | Class::Evex => None,
+    }
+}
+
+/// What the first fifteen of the bytes begin with.
+pub fn decode(bytes: &[u8]) -> Seen
+    ensures instr { (d : AnyDecoded) (n : ℕ) → (result ≡ Seen.Instr d n) ↔ IsInstr bytes.now d n }
+    ensures short { (result ≡ Seen.Short) ↔ IsShort bytes.now }
+    ensures too_long { (result ≡ Seen.TooLong) ↔ IsTooLong bytes.now }
+    ensures bad { (result ≡ Seen.Bad) ↔ IsBad bytes.now }
+
+    // The row is in the table, and the length is no greater than that of the bytes, and at most fifteen.
+    ensures within { InRange bytes.now result }
+{
+    match scan(bytes) {
+        Scan::Whole(fields, len) => match matched(&fields) {
+            Some(decoded) => Seen::Instr(decoded, len),
+            None => Seen::Bad,
+        },
+        Scan::Short if bytes.len() < LIMIT => Seen::Short,
+        Scan::Short => Seen::TooLong,
+        Scan::Dead => Seen::Bad,
+    }
+}

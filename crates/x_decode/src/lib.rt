@@ -1,0 +1,11 @@
+//! Exact decoding: the instruction that some bytes begin with.
+#![tactic(auto)]
+
+mod decoding;
+mod kinds;
+
+pub use decoding::decode;
+pub use kinds::Seen;
+
+#[cfg(test)]
+mod tests;

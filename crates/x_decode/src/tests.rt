@@ -1,0 +1,81 @@
+//! Known byte lists. What is expected is the SDM's, and on want of an instruction this machine's.
+use crate::*;
+use row_table::{CoreOp, GprOp, Op, row};
+
+/// The name of the operation, of those that the test meets.
+fn name(op: Op) -> &'static str {
+    match op {
+        Op::Core(CoreOp::Lea) => "lea",
+        Op::Core(CoreOp::Mov) => "mov",
+        Op::Core(CoreOp::Nop) => "nop",
+        Op::Core(CoreOp::Ret) => "ret",
+        Op::Core(CoreOp::Syscall) => "syscall",
+        Op::Core(CoreOp::Xchg) => "xchg",
+        Op::Gpr(GprOp::Xor) => "xor",
+        _ => "another",
+    }
+}
+
+/// What the test looks at: the answer or the operation's name, the length and the displacement.
+fn told_of(bytes: &[u8]) -> (&'static str, u8, i64) {
+    match decode(bytes) {
+        Seen::Instr(decoded, len) => (name(row(decoded.row).op), len, decoded.disp),
+        Seen::Short => ("short", 0, 0),
+        Seen::TooLong => ("too long", 0, 0),
+        Seen::Bad => ("bad", 0, 0),
+    }
+}
+
+#[test]
+fn known_bytes_are_seen_as_the_manual_says(rt: HostRuntime) {
+    let bad = ("bad", 0, 0);
+    let short = ("short", 0, 0);
+    let too_long = ("too long", 0, 0);
+    let rows: [(&[u8], (&str, u8, i64)); 28] = [
+        (&[0xf3, 0xc3], ("ret", 2, 0)),
+        (&[0xc3, 0xc3], ("ret", 1, 0)),
+        (&[0x0f, 0x05], ("syscall", 2, 0)),
+        (
+            &[0x66, 0x2e, 0x0f, 0x1f, 0x84, 0, 0, 0, 0, 0],
+            ("nop", 10, 0),
+        ),
+        (&[0xf3, 0x0f, 0x1e, 0xfa], ("nop", 4, 0)),
+        (&[0x48, 0xb8, 1, 2, 3, 4, 5, 6, 7, 8], ("mov", 10, 0)),
+        (&[0x48, 0x8d, 0x35, 0x10, 0, 0, 0], ("lea", 7, 16)),
+        (&[0x8b, 0x45, 0xf8], ("mov", 3, -8)),
+        (&[0x8b, 0x85, 0xf8, 0xff, 0xff, 0xff], ("mov", 6, -8)),
+        // LOCK before a destination in memory, and elsewhere.
+        (&[0xf0, 0x31, 0x00], ("xor", 3, 0)),
+        (&[0xf0, 0x48, 0x87, 0x40, 0xff], ("xchg", 5, -1)),
+        (&[0xf0, 0x31, 0xc0], bad),
+        (&[0xf0, 0x33, 0x00], bad),
+        (&[0xf0, 0x89, 0x00], bad),
+        // ADDPS, AESENC and CRC32, and a LEA without memory.
+        (&[0x0f, 0x58, 0xc1], bad),
+        (&[0x66, 0x0f, 0x38, 0xdc, 0xc1], bad),
+        (&[0xf2, 0x0f, 0x38, 0xf0, 0xc1], bad),
+        (&[0xf2, 0x0f, 0x38, 0xf0, 0x00], bad),
+        (&[0x8d, 0xc0], bad),
+        // VEX and EVEX.
+        (&[0xc5, 0xf8, 0x77], bad),
+        (&[0x62, 0xf1, 0x7d, 0x48, 0xfe, 0xc1], bad),
+        // Ends within an instruction.
+        (&[], short),
+        (&[0x66, 0x66, 0x66], short),
+        (&[0x48, 0xb8, 1, 2, 3, 4, 5, 6, 7], short),
+        (&[0x66; 14], short),
+        // Fifteen bytes are an instruction's most.
+        (&[0x66; 15], too_long),
+        (&[0x66; 16], too_long),
+        (
+            &[
+                0x66, 0x66, 0x66, 0x66, 0x66, 0x66, 0x66, 0x66, 0x66, 0x66, 0x66, 0x66, 0x66, 0x66,
+                0xc3, 0xc3,
+            ],
+            ("ret", 15, 0),
+        ),
+    ];
+    for (bytes, want) in rows {
+        assert_eq!(rt; told_of(bytes), want, "at {bytes:?}");
+    }
+}
