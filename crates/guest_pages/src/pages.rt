@@ -356,6 +356,7 @@ impl Pages {
     }
 
     /// Unmaps the page at the address `addr`, if it is mapped.
+    #[tactic(auto, using(crate::proofs::Protects::unmapped_resident))]
     pub fn unmap_page(&mut self, addr: u64)
         requires page { addr % 4096 ≡ 0 }
         requires low { addr < 0x800000000000 }

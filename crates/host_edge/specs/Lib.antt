@@ -8,3 +8,4 @@ pub mod Layout
 pub mod MemFiles
 pub mod Faults
 pub mod MemHost
+pub mod Moves

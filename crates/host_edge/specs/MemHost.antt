@@ -4,8 +4,8 @@ use Rattle.host_edge.specs.Causes.{Counts, is_listed, no_faults, raised}
 use Rattle.host_edge.specs.Files.{Held}
 use Rattle.host_edge.specs.NamedFiles.{NamedFile, file_in, fits_in, stored}
 
--- the files, how many bytes their paths and contents may have, how many pages a swap may have, the number of the open swap's
--- pages, the pages one behind the other, the numbers of the calls that fail, how many calls came, and how many of each failed
+-- the files, how many bytes their paths and contents may have, how many pages a swap may have and how many the open one has,
+-- its pages one behind the other, the numbers of the calls that fail, how many calls came, and how many of each kind failed
 pub record HostState : Type 0 where
   pub files : List NamedFile
   pub room : ℕ

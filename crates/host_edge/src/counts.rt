@@ -14,7 +14,7 @@ pub struct Faults {
     pub swap_put: u64,
 }
 
-/// Counts a failure, and is it.
+/// Counts a failure, and answers it.
 pub fn fault(count: &mut u64) -> Failed
     ensures { count.new ≡ raised count.old }
 {

@@ -24,13 +24,25 @@ impl<R: Read> FileSource<R> {
 }
 
 impl<R: Read> Source for FileSource<R> {
-    ghost use Rattle.std.specs.Prelude.{None};
+    ghost use Rattle.std.specs.Prelude.{◌≡◌, ◌<◌, ◌^◌, None, length};
+    ghost use Rattle.std.specs.Io.KnownBytes.{ReadConsumes};
+    ghost use Rattle.host_edge.specs.Causes.{HasCause};
+    ghost use Rattle.host_edge.specs.Moves.{reader_of};
+    ghost use Rattle.host_edge.specs.Streams.{Takes};
 
     ghost left = { λ _. None };
 
     ghost faults = { λ s. s.faults };
 
-    fn take(&mut self, into: &mut [u8]) -> Result<usize, Failed> {
+    fn take(&mut self, into: &mut [u8]) -> Result<usize, Failed>
+        requires { 0 < length into.old }
+        ensures bytes { Takes None None into.old into.new result }
+        ensures cause { HasCause self.old.faults self.new.faults result }
+
+        // What comes is what the reader gives, where its bytes are known.
+        ensures read { ReadConsumes (R.remaining (reader_of self.old)) (R.remaining (reader_of self.new))
+            result into.new }
+    {
         match self.reader.read(into) {
             Ok(count) => Ok(count),
             Err(_) => Err(fault(&mut self.faults)),
@@ -57,12 +69,22 @@ impl<W: Write> FileSink<W> {
 
 impl<W: Write> Sink for FileSink<W> {
     ghost use Rattle.std.specs.Prelude.{None};
+    ghost use Rattle.host_edge.specs.Causes.{HasCause};
+    ghost use Rattle.host_edge.specs.Moves.{Writes, writer_of};
+    ghost use Rattle.host_edge.specs.Streams.{Puts};
 
     ghost taken = { λ _. None };
 
     ghost faults = { λ s. s.faults };
 
-    fn put(&mut self, bytes: &[u8]) -> Result<(), Failed> {
+    fn put(&mut self, bytes: &[u8]) -> Result<(), Failed>
+        ensures bytes { Puts None None bytes.now result }
+        ensures cause { HasCause self.old.faults self.new.faults result }
+
+        // What is put is what the writer takes, where its bytes are known.
+        ensures written { Writes (W.contents (writer_of self.old)) (W.contents (writer_of self.new))
+            bytes.now result }
+    {
         match write_whole(&mut self.writer, bytes) {
             Ok(()) => Ok(()),
             Err(_) => Err(fault(&mut self.faults)),

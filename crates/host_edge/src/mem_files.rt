@@ -1,5 +1,5 @@
 // The files of a host in memory, whose bytes lie in a buffer that is filled from its end down to its start.
-ghost use Rattle.std.specs.Prelude.{◌≡◌, ◌+◌, ◌≤◌, ◌<◌, ◌∷◌, [], IfNone, IfOk, IfSome, IsTrue, MatchOption, None, Some, drop, length, map, nat_le, sum_by, vec_len, ◌++◌};
+ghost use Rattle.std.specs.Prelude.{◌≡◌, ◌+◌, ◌≤◌, ◌∷◌, ◌++◌, [], IfNone, IfOk, IfSome, IsTrue, MatchOption, drop, length, map, nat_le, sum_by, vec_len};
 ghost use Rattle.host_edge.specs.Layout.{IsPlaced, entry_size, files_at};
 ghost use Rattle.host_edge.specs.NamedFiles.{file_in, fits_in, named, stored, without};
 
@@ -18,7 +18,7 @@ struct Entry {
     content: usize,
 }
 
-// Where a file lies: the index of its entry, and how many bytes of other files lie in front of it.
+// Where a file lies: the index of its entry, and how many bytes of the files lie in front of it.
 #[derive(Clone, Copy)]
 struct Place {
     index: usize,

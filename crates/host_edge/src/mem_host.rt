@@ -1,8 +1,8 @@
 // A host in memory.
-ghost use Rattle.std.specs.Prelude.{◌≡◌, ◌<◌, IfOk, IsTrue, OnErr, OnOk, Some, is_err, length, map};
+ghost use Rattle.std.specs.Prelude.{◌≡◌, ◌<◌, IfOk, IsTrue, OnErr, OnOk, is_err, length, map};
 ghost use Rattle.host_edge.specs.Causes.{HasCause, raised};
 ghost use Rattle.host_edge.specs.Files.{GetMeets, LoadMeets, OpenMeets, PutMeets, StoreMeets};
-ghost use Rattle.host_edge.specs.MemHost.{after_call, held_by, load_fails, new_host, next_is_listed, open_fails, page_in, store_fails, with_page};
+ghost use Rattle.host_edge.specs.MemHost.{after_call, held_by, load_fails, new_host, next_is_listed, open_fails, store_fails, with_page};
 ghost use Rattle.host_edge.specs.NamedFiles.{fits_in, named, stored};
 
 use crate::bytes::{copy_front, read_at, write_at, zeros};

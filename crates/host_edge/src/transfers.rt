@@ -1,5 +1,7 @@
 // Loops over the reads and writes of std, each of which may move only a part.
 ghost use Rattle.std.specs.Prelude.{◌≡◌, ◌≤◌, IfOk, drop, length};
+ghost use Rattle.std.specs.Io.KnownBytes.{ReadConsumes};
+ghost use Rattle.host_edge.specs.Moves.{Reads, Writes};
 
 use crate::PAGE;
 use std::io::{self, Read, Write};
@@ -9,6 +11,7 @@ use std::io::{self, Read, Write};
 pub fn read_part<R: Read>(reader: &mut R, into: &mut [u8]) -> io::Result<usize>
     ensures fits { IfOk result (λ count. count ≤ length into.old) }
     ensures rest { IfOk result (λ count. drop count into.new ≡ drop count into.old) }
+    ensures bytes { ReadConsumes (R.remaining reader.old) (R.remaining reader.new) result into.new }
 {
     let mut part = [0; PAGE];
     let most = into.len().min(PAGE);
@@ -21,6 +24,7 @@ pub fn read_part<R: Read>(reader: &mut R, into: &mut [u8]) -> io::Result<usize>
 pub fn read_front<R: Read>(reader: &mut R, into: &mut [u8]) -> io::Result<usize>
     ensures fits { IfOk result (λ count. count ≤ length into.old) }
     ensures rest { IfOk result (λ count. drop count into.new ≡ drop count into.old) }
+    ensures bytes { Reads (R.remaining reader.old) (R.remaining reader.new) into.new result }
 {
     let mut count = 0;
     while count < into.len() {
@@ -33,15 +37,18 @@ pub fn read_front<R: Read>(reader: &mut R, into: &mut [u8]) -> io::Result<usize>
     Ok(count)
 }
 
-/// Writes all the bytes, and hands them on where the writer keeps some back. A write that takes none of them is an error.
-pub fn write_whole<W: Write>(writer: &mut W, bytes: &[u8]) -> io::Result<()> {
+/// Writes all the bytes and flushes the writer. A write that takes none of them is an error, and an error leaves a prefix
+/// written.
+pub fn write_whole<W: Write>(writer: &mut W, bytes: &[u8]) -> io::Result<()>
+    ensures { Writes (W.contents writer.old) (W.contents writer.new) bytes.now result }
+{
     let mut rest = bytes;
     while !rest.is_empty() {
-        let count = writer.write(rest)?;
-        if count == 0 {
-            return Err(io::ErrorKind::WriteZero.into());
+        match writer.write(rest) {
+            Ok(0) => return Err(io::ErrorKind::WriteZero.into()),
+            Ok(count) => rest = &rest[count..],
+            Err(error) => return Err(error),
         }
-        rest = &rest[count..];
     }
     writer.flush()
 }

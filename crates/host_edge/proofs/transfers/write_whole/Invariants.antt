@@ -1,5 +1,10 @@
+-- What is gone from `rest` was written.
 use Rattle.std.proofs.Common.{length}
+use Rattle.host_edge.proofs.MoveLemmas.{Wrote}
 use Rattle.host_edge.proofs.transfers.write_whole.Given as goal
+
+abbrev pub invariant-loop-rest : goal.invariant-loop-rest
+invariant-loop-rest g l = Wrote (g.W.Write.contents l.initial.writer) (g.W.Write.contents l.writer) l.bytes l.rest
 
 abbrev pub decreases-loop-rest : goal.decreases-loop-rest
 decreases-loop-rest g l = length l.rest
