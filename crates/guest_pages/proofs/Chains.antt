@@ -5,8 +5,14 @@ use Rattle.std.proofs.lemmas.List.{get_or-set_same, get_or-set_other, length-set
 use Rattle.std.proofs.lemmas.List.Folds.{list_any-append}
 use Rattle.std.proofs.lemmas.Map.Steps.{length-le_from_distinct_below}
 use Rattle.std.proofs.lemmas.Bool.{eqb-true, eqb-false, eq-eqb, ne_eqb, lt-ltb, le-ltb, false≢true, cases_eq, cases_lt}
-use Rattle.guest_pages.specs.Lists.{among, IsChain, IsList, IsBefore, IsRemoved, IsListing, AreDisjoint, AreListed, moved, chain_len}
+use Rattle.guest_pages.specs.Lists.{among, IsChain, IsList, IsBefore, IsRemoved, IsListing, AreDisjoint, AreListed, moved}
 use Rattle.guest_pages.specs.declared.lists.Lists.{Lists}
+
+-- how many numbers the links lead along, at most so many
+abbrev pub chain_len : ℕ → List (Option ℕ) → Option ℕ → ℕ
+chain_len zero nexts at = 0
+chain_len (suc most) nexts None = 0
+chain_len (suc most) nexts (Some k) = suc (chain_len most nexts (get_or nexts k None))
 
 or_false : (a b : Bool) → (a || b) ≡ false → (a ≡ false) × (b ≡ false)
 or_false true b h = cc

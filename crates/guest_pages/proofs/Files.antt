@@ -6,9 +6,9 @@ use Rattle.std.proofs.Math.Nat.{mul-lt-mul_of_pos_right, mul-zero}
 use Rattle.guest_pages.specs.declared.lists.Lists.{Lists}
 use Rattle.guest_pages.specs.declared.entry.Entry.{Entry}
 use Rattle.guest_pages.specs.Entry.{holds_page}
-use Rattle.guest_pages.specs.Lists.{among, IsChain, IsIn, AreListed, moved, chain_len}
+use Rattle.guest_pages.specs.Lists.{among, IsChain, IsIn, AreListed, moved}
 use Rattle.guest_pages.specs.Slots.{LacksPage, bucket_of, list_of, home_in, AreFiled}
-use Rattle.guest_pages.proofs.Chains.{chain_falls}
+use Rattle.guest_pages.proofs.Chains.{chain_len, chain_falls}
 use Rattle.guest_pages.proofs.Counts.{count_by_all}
 use Rattle.guest_pages.proofs.Seats.{entry_there}
 

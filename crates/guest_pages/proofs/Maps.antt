@@ -17,7 +17,7 @@ use Rattle.guest_pages.proofs.Counts.{count_by_none, count_by_below}
 use Rattle.guest_pages.proofs.Seats.{seek_none, take_free}
 use Rattle.guest_pages.proofs.Tables.{table_at, table_none, mapped_entry}
 use Rattle.guest_pages.proofs.Files.{free_there, full_there}
-use Rattle.guest_pages.proofs.Takes.{taken, entry_mapped, size_taken, table_taken, byte_taken, mark_taken, count_taken}
+use Rattle.guest_pages.proofs.Takes.{taken, entry_mapped, size_taken, table_taken, byte_taken, mark_taken, mark_none, count_taken}
 
 -- a slot that can take the page and holds one holds that page
 pub taken_seat : (slots : List (Option Entry)) (page k : ℕ) (entry : Entry) → CanTake slots page k → get_or slots k None ≡ Some entry → IsSeatOf slots page k
@@ -166,6 +166,7 @@ blank_there pages frames most blank frames_are pages_are = record {
   pages_are = pages_are;
   table = λ page. table_none pages page (blank_lacks pages.slots blank page);
   byte = λ swap addr. rw (seek_none 0 pages.slots (addr / 4096) (blank_lacks pages.slots blank (addr / 4096))) refl;
+  marks = λ page. mark_none pages page (blank_lacks pages.slots blank page);
   count = count_by_none is_some pages.slots None (λ i h. rw (blank i) refl);
 }
 

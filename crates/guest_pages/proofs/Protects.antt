@@ -17,7 +17,7 @@ use Rattle.guest_pages.specs.Changes.{AllResident, IsProtected, IsUnmapped, IsZe
 use Rattle.guest_pages.specs.Slots.{LacksPage, IsSeatOf, AreSound, CanTake, IsKept}
 use Rattle.guest_pages.proofs.Seats.{seek_at, seek_none, seat_at, take_seat}
 use Rattle.guest_pages.proofs.Tables.{table_at, table_none}
-use Rattle.guest_pages.proofs.Takes.{taken, entry_mapped, size_taken, table_taken, table_kept, byte_taken, mark_taken, mark_at, with_entry_same, with_mark_same, count_kept}
+use Rattle.guest_pages.proofs.Takes.{taken, entry_mapped, size_taken, table_taken, table_kept, byte_taken, mark_taken, mark_at, mark_none, with_entry_same, with_mark_same, count_kept}
 use Rattle.guest_pages.proofs.Maps.{zeros_byte}
 use Rattle.guest_pages.proofs.Keeps.{kept_changed}
 
@@ -140,16 +140,12 @@ absent_byte pages page lacks swap at = ⊎_elim
     (λ (other : at / 4096 ≢ page). rw (ne_eqb (at / 4096) page other) refl)
     (cases_eq (at / 4096) page)
 
-absent_mark : (pages : PagesValue) (page : ℕ) → LacksPage pages.slots page → mark_of pages page ≡ None
-unfolding mark_of
-absent_mark pages page lacks = rw (seek_none 0 pages.slots page lacks) refl
-
 -- a page that isn't mapped
 pub unmapped_absent : (pages : PagesValue) (page : ℕ) → LacksPage pages.slots page → IsUnmapped pages pages page
 unmapped_absent pages page lacks = record {
   size = record { frames = refl; pages = refl };
   table = sym (with_entry_same (table_of pages) page None (table_none pages page lacks));
   byte = λ swap i at. absent_byte pages page lacks swap at i;
-  marks = sym (with_mark_same (mark_of pages) page None (absent_mark pages page lacks));
+  marks = sym (with_mark_same (mark_of pages) page None (mark_none pages page lacks));
   count = rw (table_none pages page lacks) (add-zero (mapped_count pages));
 }

@@ -11,8 +11,8 @@ use Rattle.guest_pages.specs.declared.entry.Mark.{Mark}
 use Rattle.guest_pages.specs.Table.{Mapped, Table, with_entry}
 use Rattle.guest_pages.specs.Pages.{PagesValue, Seat, mapped_of, table_of, seat_byte, byte_of, mark_of, mapped_count}
 use Rattle.guest_pages.specs.Changes.{KeepsSize, IsUnmapped, Marks, with_mark}
-use Rattle.guest_pages.specs.Slots.{CanTake, IsSeatOf, AreApart}
-use Rattle.guest_pages.proofs.Seats.{seat_at, seek_at, seek_taken, seek_emptied}
+use Rattle.guest_pages.specs.Slots.{LacksPage, CanTake, IsSeatOf, AreApart}
+use Rattle.guest_pages.proofs.Seats.{seat_at, seek_at, seek_none, seek_taken, seek_emptied}
 
 abbrev pub taken : PagesValue → ℕ → Entry → PagesValue
 taken pages k entry = record { frames = pages.frames; slots = set pages.slots k (Some entry) }
@@ -89,6 +89,10 @@ mark_taken pages k entry can = λ i page.
 pub mark_at : (pages : PagesValue) (page k : ℕ) (entry : Entry) → IsSeatOf pages.slots page k → get_or pages.slots k None ≡ Some entry → mark_of pages page ≡ mark_in entry.place
 unfolding mark_of
 mark_at pages page k entry seat is = ap (option_and_then (λ seat. mark_in seat.entry.place)) (seek_at pages.slots page k entry seat is)
+
+pub mark_none : (pages : PagesValue) (page : ℕ) → LacksPage pages.slots page → mark_of pages page ≡ None
+unfolding mark_of
+mark_none pages page lacks = rw (seek_none 0 pages.slots page lacks) refl
 
 same_mark : (marks : Marks) (page at : ℕ) (mark : Option Mark) → marks page ≡ mark → with_mark marks page mark at ≡ marks at
 same_mark marks page at mark is = ⊎_elim

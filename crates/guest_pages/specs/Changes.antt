@@ -38,6 +38,7 @@ pub record IsBlank (pages : PagesValue) (frames most : ℕ) : Type 0 where
   pub pages_are : length pages.slots ≡ most
   pub table : (page : ℕ) → table_of pages page ≡ None
   pub byte : (swap : Swap) (addr : ℕ) → byte_of pages swap addr ≡ 0
+  pub marks : (page : ℕ) → mark_of pages page ≡ None
   pub count : mapped_count pages ≡ 0
 
 -- these are the bytes of an access

@@ -1,5 +1,5 @@
 -- Numbers in linked lists. No public clause cites this module.
-use Rattle.std.specs.Prelude.{ℕ, zero, suc, false, ◌≡◌, ◌<◌, ◌==◌, List, [], ◌∷◌, ◌++◌, ◌&&◌, not, true, Bool, Option, Some, None, slice_index_or, length, if◌then◌else◌}
+use Rattle.std.specs.Prelude.{ℕ, false, ◌≡◌, ◌<◌, ◌==◌, List, [], ◌∷◌, ◌++◌, ◌&&◌, not, true, Bool, Option, Some, None, slice_index_or, length, if◌then◌else◌}
 use Rattle.std.specs.List.{list_any}
 use Rattle.guest_pages.specs.declared.lists.Lists.{Lists}
 
@@ -50,9 +50,3 @@ AreListed lists home = (list : ℕ) → list < length lists.heads.items → IsLi
 -- the homes where one number moves to another list
 abbrev pub moved : (ℕ → ℕ) → ℕ → ℕ → ℕ → ℕ
 moved home number to k = if k == number then to else home k
-
--- how many numbers the links lead along, at most so many
-abbrev pub chain_len : ℕ → List (Option ℕ) → Option ℕ → ℕ
-chain_len zero nexts at = 0
-chain_len (suc most) nexts None = 0
-chain_len (suc most) nexts (Some k) = suc (chain_len most nexts (slice_index_or nexts k None))

@@ -1,5 +1,5 @@
 //! A mapped page, and where its bytes are.
-ghost use Rattle.std.specs.Prelude.{◌≡◌, ◌≤◌, ◌+◌, length, slice_range, true, is_some, None, All, IfSome};
+ghost use Rattle.std.specs.Prelude.{◌≡◌, ◌≤◌, ◌+◌, None, true, is_some, length, IfSome};
 ghost use Rattle.std.specs.Borrow.{sem};
 ghost use Rattle.std.specs.Option.{option_copied};
 ghost use Rattle.guest_pages.specs.Entry.{is_resident, place_marked, place_frame, holds_page, slot_permits, slot_frame, is_in_frame, IsZeros, IsZeroedSlot, slot_protected};

@@ -1,5 +1,5 @@
 //! Numbers in linked lists: each number is in one list, its home, from which it moves to another.
-ghost use Rattle.std.specs.Prelude.{◌≡◌, ◌≢◌, ◌<◌, ◌==◌, ◌&&◌, ◌+◌, ◌++◌, ℕ, List, [], ◌∷◌, Option, Some, None, true, false, not, length, slice_index_or, vec_len, MatchOption, IfOk};
+ghost use Rattle.std.specs.Prelude.{◌≡◌, ◌≢◌, ◌<◌, ℕ, List, ◌∷◌, None, true, false, slice_index_or, vec_len, IfOk};
 
 use std::alloc::{AllocError, Global};
 
@@ -54,8 +54,10 @@ impl Lists {
     fn push(&mut self, list: usize, number: u32)
         requires list { list < vec_len self.old.heads }
         requires number { number < vec_len self.old.nexts }
-        ensures pushed { (numbers : List ℕ) → IsList self.old list numbers → among number numbers ≡ false → IsList self.new list (number ∷ numbers) }
-        ensures others { (other : ℕ) (numbers : List ℕ) → other ≢ list → IsList self.old other numbers → among number numbers ≡ false → IsList self.new other numbers }
+        ensures pushed { (numbers : List ℕ) → IsList self.old list numbers → among number numbers ≡ false
+            → IsList self.new list (number ∷ numbers) }
+        ensures others { (other : ℕ) (numbers : List ℕ) → other ≢ list → IsList self.old other numbers
+            → among number numbers ≡ false → IsList self.new other numbers }
         ensures heads { vec_len self.new.heads ≡ vec_len self.old.heads }
         ensures nexts { vec_len self.new.nexts ≡ vec_len self.old.nexts }
     {
@@ -85,8 +87,10 @@ impl Lists {
     fn remove(&mut self, list: usize, number: u32)
         requires list { list < vec_len self.old.heads }
         requires listed { IsIn self.old list number }
-        ensures removed { (numbers : List ℕ) → IsList self.old list numbers → among number numbers ≡ true → IsRemoved self.new list number numbers }
-        ensures others { (other : ℕ) (numbers mine : List ℕ) → other ≢ list → IsList self.old other numbers → IsList self.old list mine → AreDisjoint mine numbers → IsList self.new other numbers }
+        ensures removed { (numbers : List ℕ) → IsList self.old list numbers → among number numbers ≡ true
+            → IsRemoved self.new list number numbers }
+        ensures others { (other : ℕ) (numbers mine : List ℕ) → other ≢ list → IsList self.old other numbers
+            → IsList self.old list mine → AreDisjoint mine numbers → IsList self.new other numbers }
         ensures heads { vec_len self.new.heads ≡ vec_len self.old.heads }
         ensures nexts { vec_len self.new.nexts ≡ vec_len self.old.nexts }
     {
@@ -103,7 +107,8 @@ impl Lists {
         requires to { to < vec_len self.old.heads }
         requires number { number < vec_len self.old.nexts }
         requires listed { IsIn self.old from number }
-        ensures listed { (home : ℕ → ℕ) → home number ≡ from → AreListed self.old home → AreListed self.new (moved home number to) }
+        ensures listed { (home : ℕ → ℕ) → home number ≡ from → AreListed self.old home
+            → AreListed self.new (moved home number to) }
         ensures heads { vec_len self.new.heads ≡ vec_len self.old.heads }
         ensures nexts { vec_len self.new.nexts ≡ vec_len self.old.nexts }
     {

@@ -5,7 +5,7 @@ use Rattle.std.proofs.Math.Seq.{take-length}
 use Rattle.std.proofs.lemmas.Bool.{cases_lt, le-leb, lt-leb, lt-ltb, le-ltb}
 use Rattle.machine_state.specs.declared.kinds.Kind.{Kind}
 use Rattle.machine_state.specs.declared.kinds.Miss.{Miss}
-use Rattle.machine_state.specs.declared.kinds.Miss.TheVariants.{Denied, NonCanonical}
+use Rattle.machine_state.specs.declared.kinds.Miss.TheVariants.{Away, Denied, NonCanonical}
 use Rattle.machine_state.specs.Memory.{Permissions, permits, is_noncanonical, miss_in, miss_at, or_else, first_miss, bytes_at, written}
 
 pub or_else-assoc : (a b c : Option Miss) → or_else a (or_else b c) ≡ or_else (or_else a b) c
@@ -54,6 +54,31 @@ pub first_miss_at_once : (perms : Permissions) (kind : Kind) (addr len : ℕ) (m
 unfolding first_miss
 first_miss_at_once perms kind addr zero miss some is = absurd (omega arith)
 first_miss_at_once perms kind addr (suc len) miss some is = rw is refl
+
+in_never_away : (page : Option ℕ) (kind : Kind) (addr slot : ℕ) → miss_in page kind addr ≡ Some (Away slot) → ⊥
+in_never_away None kind addr slot h = cc
+in_never_away (Some perms) kind addr slot h = denied_only (permits kind perms) addr slot h
+  where
+    denied_only : (b : Bool) (addr slot : ℕ) → cond b None (Some (Denied addr)) ≡ Some (Away slot) → ⊥
+    denied_only true addr slot h = cc
+    denied_only false addr slot h = cc
+
+at_never_away : (b : Bool) (page : Option ℕ) (kind : Kind) (addr slot : ℕ) → cond b (Some (NonCanonical addr)) (miss_in page kind addr) ≡ Some (Away slot) → ⊥
+at_never_away true page kind addr slot h = cc
+at_never_away false page kind addr slot h = in_never_away page kind addr slot h
+
+-- the first miss never tells of a page that is away
+pub first_miss_never_away : (perms : Permissions) (kind : Kind) (addr len slot : ℕ) → first_miss perms kind addr len ≡ Some (Away slot) → ⊥
+unfolding first_miss
+first_miss_never_away perms kind addr zero slot h = cc
+first_miss_never_away perms kind addr (suc len) slot h =
+    either (miss_at perms kind addr) (first_miss perms kind (addr + 1) len)
+    (at_never_away (is_noncanonical addr) (perms (addr / 4096)) kind addr slot)
+    (first_miss_never_away perms kind (addr + 1) len slot) h
+  where
+    either : (a b : Option Miss) → (a ≡ Some (Away slot) → ⊥) → (b ≡ Some (Away slot) → ⊥) → or_else a b ≡ Some (Away slot) → ⊥
+    either None b one two h = two h
+    either (Some miss) b one two h = one h
 
 denied_case : (b : Bool) (addr other : ℕ) → cond b None (Some (Denied addr)) ≡ None → cond b None (Some (Denied other)) ≡ None
 denied_case true addr other h = refl

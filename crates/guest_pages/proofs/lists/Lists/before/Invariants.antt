@@ -1,6 +1,5 @@
 use Rattle.std.proofs.Common.{length, get_or, None}
-use Rattle.guest_pages.specs.Lists.{chain_len}
-use Rattle.guest_pages.proofs.Chains.{SeeksIn}
+use Rattle.guest_pages.proofs.Chains.{SeeksIn, chain_len}
 use Rattle.guest_pages.proofs.lists.Lists.before.Given as goal
 
 abbrev pub invariant-loop-at : goal.invariant-loop-at

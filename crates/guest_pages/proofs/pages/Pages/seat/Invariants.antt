@@ -1,5 +1,5 @@
 use Rattle.std.proofs.Common.{length}
-use Rattle.guest_pages.specs.Lists.{chain_len}
+use Rattle.guest_pages.proofs.Chains.{chain_len}
 use Rattle.guest_pages.proofs.Files.{LooksFor}
 use Rattle.guest_pages.proofs.pages.Pages.seat.Given as goal
 
