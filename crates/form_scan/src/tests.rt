@@ -44,137 +44,80 @@ fn plain(len: u8) -> Seen {
     }
 }
 
+/// One with F2 or F3.
+fn repeated(rep: u8, len: u8) -> Seen {
+    Seen { rep, ..plain(len) }
+}
+
+/// One in a segment.
+fn in_segment(segment: u8, len: u8) -> Seen {
+    Seen {
+        segment,
+        ..plain(len)
+    }
+}
+
+/// One with a displacement.
+fn displaced(disp: i64, len: u8) -> Seen {
+    Seen { disp, ..plain(len) }
+}
+
+/// One with an immediate.
+fn immediate(imm: u64, len: u8) -> Seen {
+    Seen { imm, ..plain(len) }
+}
+
+/// The same with REX.
+fn rex(seen: Seen) -> Seen {
+    Seen { rex: true, ..seen }
+}
+
+/// The same with REX.W.
+fn wide(seen: Seen) -> Seen {
+    Seen {
+        w: true,
+        ..rex(seen)
+    }
+}
+
+/// The same with REX.B.
+fn high(seen: Seen) -> Seen {
+    Seen { b: 1, ..rex(seen) }
+}
+
 #[test]
 fn known_instructions_are_whole(rt: HostRuntime) {
     let none = plain(0);
+    let mut longest = [0x66; 15];
+    longest[14] = 0x90;
     let rows: [(&[u8], Seen); 20] = [
         (&[0x31, 0xff], plain(2)),
-        (
-            &[0xf3, 0xc3],
-            Seen {
-                rep: 0xf3,
-                ..plain(2)
-            },
-        ),
+        (&[0xf3, 0xc3], repeated(0xf3, 2)),
         // Of F2 and F3, and of 64 and 65, the last counts.
-        (
-            &[0xf3, 0xf2, 0xc3],
-            Seen {
-                rep: 0xf2,
-                ..plain(3)
-            },
-        ),
-        (
-            &[0x65, 0x64, 0x8b, 0x00],
-            Seen {
-                segment: 0x64,
-                ..plain(4)
-            },
-        ),
+        (&[0xf3, 0xf2, 0xc3], repeated(0xf2, 3)),
+        (&[0x65, 0x64, 0x8b, 0x00], in_segment(0x64, 4)),
         (&[0x66, 0x2e, 0x0f, 0x1f, 0x84, 0, 0, 0, 0, 0], plain(10)),
-        (
-            &[0xf3, 0x0f, 0x1e, 0xfa],
-            Seen {
-                rep: 0xf3,
-                ..plain(4)
-            },
-        ),
+        (&[0xf3, 0x0f, 0x1e, 0xfa], repeated(0xf3, 4)),
         (
             &[0x48, 0xb8, 1, 2, 3, 4, 5, 6, 7, 8],
-            Seen {
-                rex: true,
-                w: true,
-                imm: 0x0807_0605_0403_0201,
-                ..plain(10)
-            },
+            wide(immediate(0x0807_0605_0403_0201, 10)),
         ),
-        (&[0xb8, 1, 0, 0, 0], Seen { imm: 1, ..plain(5) }),
-        (
-            &[0x66, 0xb8, 0x34, 0x12, 0, 0],
-            Seen {
-                imm: 0x1234,
-                ..plain(4)
-            },
-        ),
-        (&[0xb4, 0x05], Seen { imm: 5, ..plain(2) }),
-        (
-            &[0x40, 0xb4, 0x05],
-            Seen {
-                rex: true,
-                imm: 5,
-                ..plain(3)
-            },
-        ),
+        (&[0xb8, 1, 0, 0, 0], immediate(1, 5)),
+        (&[0x66, 0xb8, 0x34, 0x12, 0, 0], immediate(0x1234, 4)),
+        (&[0xb4, 0x05], immediate(5, 2)),
+        (&[0x40, 0xb4, 0x05], rex(immediate(5, 3))),
         // A REX byte before a prefix does not count, and of two the second does.
-        (
-            &[0x48, 0x66, 0xb8, 0x34, 0x12],
-            Seen {
-                imm: 0x1234,
-                ..plain(5)
-            },
-        ),
-        (
-            &[0x48, 0x41, 0xb8, 1, 0, 0, 0],
-            Seen {
-                rex: true,
-                b: 1,
-                imm: 1,
-                ..plain(7)
-            },
-        ),
+        (&[0x48, 0x66, 0xb8, 0x34, 0x12], immediate(0x1234, 5)),
+        (&[0x48, 0x41, 0xb8, 1, 0, 0, 0], high(immediate(1, 7))),
         // A SIB byte without a base, and an address relative to rip.
-        (
-            &[0x8b, 0x04, 0x25, 0, 0x10, 0, 0],
-            Seen {
-                disp: 0x1000,
-                ..plain(7)
-            },
-        ),
-        (
-            &[0x48, 0x8d, 0x35, 0x10, 0, 0, 0],
-            Seen {
-                rex: true,
-                w: true,
-                disp: 0x10,
-                ..plain(7)
-            },
-        ),
-        (
-            &[0x8b, 0x45, 0xf8],
-            Seen {
-                disp: -8,
-                ..plain(3)
-            },
-        ),
-        (
-            &[0x8b, 0x85, 0xf8, 0xff, 0xff, 0xff],
-            Seen {
-                disp: -8,
-                ..plain(6)
-            },
-        ),
+        (&[0x8b, 0x04, 0x25, 0, 0x10, 0, 0], displaced(0x1000, 7)),
+        (&[0x48, 0x8d, 0x35, 0x10, 0, 0, 0], wide(displaced(0x10, 7))),
+        (&[0x8b, 0x45, 0xf8], displaced(-8, 3)),
+        (&[0x8b, 0x85, 0xf8, 0xff, 0xff, 0xff], displaced(-8, 6)),
         // An address of 8 bytes, and with 67 of 4.
-        (
-            &[0xa1, 0, 0, 1, 0, 0, 0, 0, 0],
-            Seen {
-                imm: 0x1_0000,
-                ..plain(9)
-            },
-        ),
-        (
-            &[0x67, 0xa1, 0, 0, 1, 0, 0],
-            Seen {
-                imm: 0x1_0000,
-                ..plain(6)
-            },
-        ),
-        (
-            &[
-                0x66, 0x66, 0x66, 0x66, 0x66, 0x66, 0x66, 0x66, 0x66, 0x66, 0x66, 0x66, 0x66, 0x66,
-                0x90,
-            ],
-            plain(15),
-        ),
+        (&[0xa1, 0, 0, 1, 0, 0, 0, 0, 0], immediate(0x1_0000, 9)),
+        (&[0x67, 0xa1, 0, 0, 1, 0, 0], immediate(0x1_0000, 6)),
+        (&longest, plain(15)),
     ];
     for (bytes, want) in rows {
         assert_eq!(rt; told_of(bytes).unwrap_or(none), want, "at {bytes:?}");
