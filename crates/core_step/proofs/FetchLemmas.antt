@@ -1,79 +1,46 @@
 -- The bytes that a fetch could read, and what a step does with all that it may read.
-use Rattle.std.proofs.Common.{◌≡◌, ℕ, zero, suc, ◌+◌, ◌-◌, ◌/◌, ◌<◌, ◌≤◌, ◌^◌, ◌↔◌, inl, inr, List, [], ◌∷◌, ◌++◌, Option, Some, None, Ok, Bool, true, false, if◌then◌else◌, refl, sym, ◌∙◌, ap, arith, take, length, set, add-zero, append-nil, subst, MatchOption}
-use Rattle.std.proofs.lemmas.List.{take_more_set}
+use Rattle.std.proofs.Common.{◌≡◌, ℕ, zero, suc, ◌+◌, ◌-◌, ◌/◌, ◌%◌, ◌<◌, ◌≤◌, ◌↔◌, inl, inr, List, [], ◌∷◌, ◌++◌, Option, Some, None, refl, sym, ◌∙◌, ap, arith, take, drop, length, add-zero, append-nil, MatchOption}
 use Rattle.std.proofs.lemmas.Bool.{cases_lt}
+use Rattle.std.proofs.lemmas.List.{length-append, length-take-le, length-drop}
+use Rattle.std.proofs.lemmas.Slice.{take-put_mid}
+use borrow.Rule.Slice.PartMut.{put_mid}
 use Rattle.machine_state.specs.declared.kinds.Kind.{Kind}
 use Rattle.machine_state.specs.declared.kinds.Kind.TheVariants.{Execute}
 use Rattle.machine_state.specs.declared.kinds.Miss.{Miss}
 use Rattle.machine_state.specs.declared.kinds.Miss.TheVariants.{Unmapped, Denied, NonCanonical, Away}
-use Rattle.machine_state.specs.declared.kinds.Fault.TheVariants.{General}
-use Rattle.machine_state.specs.Memory.{Memory, Swap, Permissions, is_noncanonical, permits, miss_in, miss_at, or_else, first_miss, bytes_at, allowed_run}
+use Rattle.machine_state.specs.Memory.{Memory, Permissions, miss_at, or_else, first_miss, bytes_at, allowed_run}
 use Rattle.machine_state.specs.State.{State}
-use Rattle.machine_state.proofs.MemoryLemmas.{or_else_none, first_miss-append, first_miss-zero, first_miss_at_once, bytes_at-append}
-use Rattle.guest_pages.specs.Table.{Mapped, Table, blocked, first_away, away_at, perms_in, answer_of}
-use Rattle.guest_pages.proofs.Walks.{first_away-append, first_away-zero, blocked_part}
-use Rattle.core_step.specs.declared.instruction.Seen.{Seen}
-use Rattle.core_step.specs.declared.instruction.Seen.TheVariants.{Spells, Short, Bad}
+use Rattle.machine_state.proofs.MemoryLemmas.{or_else_right, or_else_none, first_miss-append, first_miss-zero, first_miss_at_once, first_miss_never_away, length-bytes_at}
+use Rattle.guest_pages.specs.Table.{Table, blocked, first_away, away_at, perms_in}
+use Rattle.guest_pages.proofs.Walks.{away_at-away, blocked_both, blocked_first, blocked_part, first_away-zero}
+use Rattle.row_table.specs.declared.kinds.Decoded.{Decoded}
+use Rattle.x_decode.specs.declared.kinds.Seen.{Seen}
+use Rattle.x_decode.specs.declared.kinds.Seen.TheVariants.{Instr, Short, TooLong, Bad}
+use Rattle.x_decode.specs.Seeing.{seen, InRange, IsInstr}
 use Rattle.core_step.specs.declared.fetching.Fetched.TheVariants.{Need}
-use Rattle.core_step.specs.Decode.{seen}
 use Rattle.core_step.specs.Act.{act, act_on, trapped, fetch_fault}
-use Rattle.core_step.specs.Fetch.{IsRun, IsFetched, NeedsPage, outcome, stopped}
-use Rattle.core_step.proofs.ShapeLemmas.{seen-more}
+use Rattle.core_step.specs.Fetch.{IsRun, IsFetched, IsFetchFit, NeedsPage, outcome, stopped}
+use Rattle.core_step.proofs.Steps.{IsDenial}
 
+-- there isn't both something and nothing
 some-none : {A : Type 0} (option : Option A) (x : A) → option ≡ None → option ≡ Some x → ⊥
 some-none option x none some = cc
-
-or_else-nothing : (first : Option Miss) → or_else first None ≡ first
-or_else-nothing None = refl
-or_else-nothing (Some miss) = refl
-
-pub answer_of-ok : (miss : Option Miss) (unit : Unit {0}) → Ok unit ≡ answer_of miss → miss ≡ None
-answer_of-ok None unit e = refl
-answer_of-ok (Some miss) unit e = cc
 
 -- what keeps one byte from being had
 blocked-one : (table : Table) (kind : Kind) (addr : ℕ)
     → blocked table kind addr 1 ≡ or_else (miss_at (perms_in table) kind addr) (away_at (table (addr / 4096)))
 unfolding first_miss first_away
 blocked-one table kind addr =
-    rw (or_else-nothing (miss_at (perms_in table) kind addr), or_else-nothing (away_at (table (addr / 4096)))) refl
+    rw (or_else_right (miss_at (perms_in table) kind addr), or_else_right (away_at (table (addr / 4096)))) refl
 
+-- an access of no bytes can be made
 blocked-zero : (table : Table) (kind : Kind) (addr : ℕ) → blocked table kind addr 0 ≡ None
 blocked-zero table kind addr = rw (first_miss-zero (perms_in table) kind addr) (first_away-zero table addr)
 
--- one byte more can be had
-blocked-more : (table : Table) (kind : Kind) (addr count : ℕ) → blocked table kind addr count ≡ None → blocked table kind (addr + count) 1 ≡ None
-    → blocked table kind addr (count + 1) ≡ None
-blocked-more table kind addr count before next =
-    let first = or_else_none (first_miss (perms_in table) kind addr count) (first_away table addr count) before in
-    let last = or_else_none (first_miss (perms_in table) kind (addr + count) 1) (first_away table (addr + count) 1) next in
-    let allowed : first_miss (perms_in table) kind addr (count + 1) ≡ None = first_miss-append (perms_in table) kind addr count 1 ∙ rw (first.0, last.0) refl in
-    rw allowed (first_away-append table addr count 1 ∙ rw (first.1, last.1) refl)
-
 -- a byte's miss is never Away
-never_away : (page : Option ℕ) (kind : Kind) (addr slot : ℕ) → miss_in page kind addr ≡ Some (Away slot) → ⊥
-never_away None kind addr slot e = cc
-never_away (Some perms) kind addr slot e = denied (permits kind perms) e
-  where
-    denied : (test : Bool) → (if test then None else Some (Denied addr)) ≡ Some (Away slot) → ⊥
-    denied true e = cc
-    denied false e = cc
-
 miss_at-never_away : (perms : Permissions) (kind : Kind) (addr slot : ℕ) → miss_at perms kind addr ≡ Some (Away slot) → ⊥
-miss_at-never_away perms kind addr slot e = canonical (is_noncanonical addr) e
-  where
-    canonical : (test : Bool) → (if test then Some (NonCanonical addr) else miss_in (perms (addr / 4096)) kind addr) ≡ Some (Away slot) → ⊥
-    canonical true e = cc
-    canonical false e = never_away (perms (addr / 4096)) kind addr slot e
-
--- away pages are given by their slots
-away_at-away : (mapped : Option Mapped) (miss : Miss) → away_at mapped ≡ Some miss → (slot : ℕ) × (miss ≡ Away slot)
-away_at-away None miss e = cc
-away_at-away (Some mapped) miss e = away mapped.resident e
-  where
-    away : (resident : Bool) → (if resident then None else Some (Away mapped.slot)) ≡ Some miss → (slot : ℕ) × (miss ≡ Away slot)
-    away true e = cc
-    away false e = (mapped.slot, cc)
+miss_at-never_away perms kind addr slot e =
+    first_miss_never_away perms kind addr 1 slot (first_miss_at_once perms kind addr 1 (Away slot) (omega arith) e)
 
 -- of two misses the second, where the first can't be
 or_else-second : (first other : Option Miss) (miss : Miss) → (first ≡ Some miss → ⊥) → or_else first other ≡ Some miss → (first ≡ None) × (other ≡ Some miss)
@@ -92,33 +59,51 @@ blocked-away table kind addr slot e =
     or_else-second _ _ _ (miss_at-never_away (perms_in table) kind addr slot) (sym (blocked-one table kind addr) ∙ e)
 
 -- a byte that can't be had, and isn't on an away page, isn't allowed
-blocked-missed : (table : Table) (kind : Kind) (addr : ℕ) (miss : Miss) → ((slot : ℕ) → miss ≡ Away slot → ⊥)
+blocked-missed : (table : Table) (kind : Kind) (addr : ℕ) (miss : Miss) → IsDenial miss
     → blocked table kind addr 1 ≡ Some miss → miss_at (perms_in table) kind addr ≡ Some miss
 blocked-missed table kind addr miss there e =
     or_else-first _ _ _ (λ away. let slot = away_at-away (table (addr / 4096)) miss away in there slot.0 slot.1) (sym (blocked-one table kind addr) ∙ e)
 
--- so many bytes of a buffer were read, and can be fetched now
-pub record AreRead (table : Table) (byte : Swap → ℕ → ℕ) (addr : ℕ) (into : List ℕ) (count : ℕ) : Type 0 where
-  pub low : addr + count < 2 ^ 64
-  pub ready : blocked table Execute addr count ≡ None
-  pub bytes : (w : Swap) → take count into ≡ bytes_at (byte w) addr count
+-- so many bytes can be fetched, and those behind them, which lie on one page, can't
+pub run-stopped : (table : Table) (addr most count len : ℕ) (miss : Miss) → count < most → blocked table Execute addr count ≡ None
+    → 0 < len → (addr + count) % 4096 + len ≤ 4096 → blocked table Execute (addr + count) len ≡ Some miss → IsRun table addr most count (Some miss)
+run-stopped table addr most count len miss fewer ready some within stop =
+    record { ready = ready; end = (fewer, blocked_first table Execute (addr + count) len some within ∙ stop) }
 
-pub AreRead-none : (table : Table) (byte : Swap → ℕ → ℕ) (addr : ℕ) (into : List ℕ) → addr < 2 ^ 64 → AreRead table byte addr into 0
-unfolding bytes_at
-AreRead-none table byte addr into fits = record { low = omega arith; ready = blocked-zero table Execute addr; bytes = λ w. refl }
+-- the same, where they are the first of all
+pub run-missed : (table : Table) (addr most len : ℕ) (miss : Miss) → 0 < most → 0 < len → addr % 4096 + len ≤ 4096
+    → blocked table Execute addr len ≡ Some miss → IsRun table addr most 0 (Some miss)
+run-missed table addr most len miss fewer some within stop =
+    let place : addr + 0 ≡ addr = add-zero addr in
+    run-stopped table addr most 0 len miss fewer (blocked-zero table Execute addr) some (rw place within) (rw place stop)
 
--- one byte more
-pub AreRead-more : (table : Table) (byte : Swap → ℕ → ℕ) (addr : ℕ) (into : List ℕ) (count next : ℕ) → count < length into
-    → addr + count + 1 < 2 ^ 64 → blocked table Execute (addr + count) 1 ≡ None
-    → ((w : Swap) → next ≡ byte w (addr + count)) → AreRead table byte addr into count → AreRead table byte addr (set into count next) (count + 1)
-unfolding bytes_at
-AreRead-more table byte addr into count next within low ready is so_far = record {
-  low = omega arith;
-  ready = blocked-more table Execute addr count so_far.ready ready;
-  bytes = λ w.
-      take_more_set into count next within ∙ ap (λ (b : List ℕ). b ++ next ∷ []) (so_far.bytes w)
-      ∙ ap (λ (x : ℕ). bytes_at (byte w) addr count ++ x ∷ []) (is w) ∙ sym (bytes_at-append (byte w) addr count 1);
-}
+-- all bytes can be fetched: the first of them, and those behind
+pub run-whole : (table : Table) (addr here most : ℕ) → here ≤ most → blocked table Execute addr here ≡ None
+    → blocked table Execute (addr + here) (most - here) ≡ None → IsRun table addr most most None
+run-whole table addr here most within before next =
+    let sum : here + (most - here) ≡ most = omega arith in
+    record { ready = ap (blocked table Execute addr) (sym sum) ∙ blocked_both table Execute addr here (most - here) before next; end = refl }
+
+-- a list whose elements from an index on were written keeps its length
+pub rest-length : (here : ℕ) (into rest : List ℕ) → here ≤ length into → length rest ≡ length into - here
+    → length (put_mid here (length into - here) into rest) ≡ length into
+rest-length here into rest within count =
+    let k : ℕ = length into - here in
+    omega (
+      arith,
+      length-append (take here into) (rest ++ drop k (drop here into)),
+      length-append rest (drop k (drop here into)),
+      length-take-le here into within,
+      length-drop k (drop here into),
+      length-drop here into,
+      count,
+    )
+
+-- and what was written stands behind those before
+pub rest-bytes : (here : ℕ) (into rest : List ℕ) → here ≤ length into → length rest ≡ length into - here
+    → take (length (put_mid here (length into - here) into rest)) (put_mid here (length into - here) into rest) ≡ take here into ++ rest
+rest-bytes here into rest within count =
+    take-put_mid here (length into - here) into rest _ (rest-length here into rest within count ∙ omega (arith, within, count)) within
 
 -- the allowed bytes from an address up begin with the bytes of an access that is allowed
 allowed_run-front : (memory : Memory) (kind : Kind) (addr count more : ℕ) → first_miss memory.perms kind addr count ≡ None
@@ -133,16 +118,14 @@ allowed_run-front memory kind addr (suc count) more allowed =
     ap (allowed_run memory kind addr) all ∙ rw (both.0, allowed_run)
     (ap (λ (bytes : List ℕ). memory.byte addr ∷ bytes) (allowed_run-front memory kind (addr + 1) count more both.1) ∙ rw place refl)
 
+-- no bytes are allowed from one on that isn't
 allowed_run-stop : (memory : Memory) (kind : Kind) (addr most : ℕ) (miss : Miss) → miss_at memory.perms kind addr ≡ Some miss
     → allowed_run memory kind addr most ≡ []
 unfolding allowed_run
 allowed_run-stop memory kind addr zero miss e = refl
 allowed_run-stop memory kind addr (suc most) miss e = rw (e, allowed_run) refl
 
-allowed_run-zero : (memory : Memory) (kind : Kind) (addr : ℕ) → allowed_run memory kind addr 0 ≡ []
-unfolding allowed_run
-allowed_run-zero memory kind addr = refl
-
+-- a step, by what is seen in the allowed bytes
 act-is : (s : State) → act s ≡ act_on (seen (allowed_run s.memory Execute s.rip 15)) s
 unfolding act
 act-is s = refl
@@ -153,6 +136,7 @@ pub record AtRip (s : State) (table : Table) (count : ℕ) (bytes : List ℕ) : 
   pub ready : blocked table Execute s.rip count ≡ None
   pub shown : bytes ≡ bytes_at s.memory.byte s.rip count
 
+-- the allowed bytes begin with those that could be read
 allowed-bytes : (s : State) (table : Table) (count : ℕ) (bytes : List ℕ) → AtRip s table count bytes → count ≤ 15
     → allowed_run s.memory Execute s.rip 15 ≡ bytes ++ allowed_run s.memory Execute (s.rip + count) (15 - count)
 allowed-bytes s table count bytes read le =
@@ -161,6 +145,7 @@ allowed-bytes s table count bytes read le =
     ap (allowed_run s.memory Execute s.rip) split ∙ allowed_run-front s.memory Execute s.rip count (15 - count) allowed
     ∙ ap (λ (front : List ℕ). front ++ allowed_run s.memory Execute (s.rip + count) (15 - count)) (sym read.shown)
 
+-- the first byte that isn't allowed is behind those that could be read
 first-behind : (s : State) (table : Table) (count : ℕ) (bytes : List ℕ) → AtRip s table count bytes → count ≤ 15
     → first_miss s.memory.perms Execute s.rip 15 ≡ first_miss s.memory.perms Execute (s.rip + count) (15 - count)
 first-behind s table count bytes read le =
@@ -168,12 +153,12 @@ first-behind s table count bytes read le =
     let allowed : first_miss s.memory.perms Execute s.rip count ≡ None = rw read.perms (or_else_none _ (first_away table s.rip count) read.ready).0 in
     ap (first_miss s.memory.perms Execute s.rip) split ∙ first_miss-append s.memory.perms Execute s.rip count (15 - count) ∙ rw allowed refl
 
--- what is known of the bytes that could be read is known of all
-act-known : (s : State) (table : Table) (count : ℕ) (bytes : List ℕ) (what : Seen) → AtRip s table count bytes → count ≤ 15 → what ≡ seen bytes
-    → (what ≡ Short → ⊥) → act s ≡ act_on what s
-act-known s table count bytes what read le is known =
+-- what is seen in the bytes that could be read is seen in all, unless they are short
+act-known : (s : State) (table : Table) (count : ℕ) (bytes : List ℕ) (what : Seen) → AtRip s table count bytes → count ≤ 15
+    → ((more : List ℕ) → seen (bytes ++ more) ≡ what) → act s ≡ act_on what s
+act-known s table count bytes what read le stays =
     act-is s ∙ ap (λ (all : List ℕ). act_on (seen all) s) (allowed-bytes s table count bytes read le)
-    ∙ ap (λ (v : Seen). act_on v s) (seen-more bytes _ what is known)
+    ∙ ap (λ (v : Seen). act_on v s) (stays (allowed_run s.memory Execute (s.rip + count) (15 - count)))
 
 -- bytes that are short, where no further one is allowed
 act-short : (s : State) (table : Table) (count : ℕ) (bytes : List ℕ) → AtRip s table count bytes → count ≤ 15 → Short ≡ seen bytes
@@ -187,29 +172,42 @@ act-short s table count bytes read le short none =
 
 -- short bytes up to one that isn't allowed
 act-stopped : (s : State) (table : Table) (count : ℕ) (bytes : List ℕ) (miss : Miss) → AtRip s table count bytes → count < 15 → Short ≡ seen bytes
-    → ((slot : ℕ) → miss ≡ Away slot → ⊥) → blocked table Execute (s.rip + count) 1 ≡ Some miss → act s ≡ trapped (fetch_fault (Some miss)) s
+    → IsDenial miss → blocked table Execute (s.rip + count) 1 ≡ Some miss → act s ≡ trapped (fetch_fault (Some miss)) s
 act-stopped s table count bytes miss read below short there stop =
     let next : miss_at s.memory.perms Execute (s.rip + count) ≡ Some miss = rw read.perms (blocked-missed table Execute (s.rip + count) miss there stop) in
     act-short s table count bytes read (omega arith) short (allowed_run-stop s.memory Execute (s.rip + count) (15 - count) miss next)
     ∙ ap (λ (m : Option Miss). trapped (fetch_fault m) s) (first_miss_at_once s.memory.perms Execute (s.rip + count) (15 - count) miss (omega arith) next)
 
--- fifteen short bytes
-act-long : (s : State) (table : Table) (bytes : List ℕ) → AtRip s table 15 bytes → Short ≡ seen bytes → act s ≡ trapped General s
-act-long s table bytes read short =
-    act-short s table 15 bytes read (omega arith) short (allowed_run-zero s.memory Execute (s.rip + 15))
-    ∙ ap (λ (m : Option Miss). trapped (fetch_fault m) s) (first_miss-zero s.memory.perms Execute (s.rip + 15))
-
--- what comes of the bytes that could be read is what a step does
+-- what comes of the bytes that could be read is what a step does; fifteen bytes are never short
 pub outcome-is : (s : State) (table : Table) (count : ℕ) (stop : Option Miss) (bytes : List ℕ) (what : Seen) → AtRip s table count bytes
-    → count ≤ 15 → IsRun table s.rip 15 count stop → what ≡ seen bytes → IsFetched s (outcome what stop)
-outcome-is s table count stop bytes (Spells instruction len) read le run is = act-known s table count bytes _ read le is (λ e. cc)
-outcome-is s table count stop bytes Bad read le run is = act-known s table count bytes _ read le is (λ e. cc)
-outcome-is s table count None bytes Short read le run is =
-    let P : ℕ → Type 0 = λ n. AtRip s table n bytes in act-long s table bytes (subst P run.end read) is
-outcome-is s table count (Some (Unmapped addr)) bytes Short read le run is = act-stopped s table count bytes _ read run.end.0 is (λ slot e. cc) run.end.1
-outcome-is s table count (Some (Denied addr)) bytes Short read le run is = act-stopped s table count bytes _ read run.end.0 is (λ slot e. cc) run.end.1
-outcome-is s table count (Some (NonCanonical addr)) bytes Short read le run is = act-stopped s table count bytes _ read run.end.0 is (λ slot e. cc) run.end.1
-outcome-is s table count (Some (Away slot)) bytes Short read le run is = tt
+    → count ≤ 15 → IsRun table s.rip 15 count stop → what ≡ seen bytes → ((what ≡ Short → ⊥) → (more : List ℕ) → seen (bytes ++ more) ≡ what)
+    → (what ≡ Short → length bytes < 15) → IsFetched s (outcome what stop)
+outcome-is s table count stop bytes (Instr d len) read le run is stays few = act-known s table count bytes _ read le (stays (λ e. cc))
+outcome-is s table count stop bytes TooLong read le run is stays few = act-known s table count bytes _ read le (stays (λ e. cc))
+outcome-is s table count stop bytes Bad read le run is stays few = act-known s table count bytes _ read le (stays (λ e. cc))
+outcome-is s table count None bytes Short read le run is stays few =
+    let long : length bytes ≡ count = ap length read.shown ∙ length-bytes_at s.memory.byte s.rip count in
+    absurd (omega (arith, long, few refl, run.end))
+outcome-is s table count (Some (Unmapped addr)) bytes Short read le run is stays few = act-stopped s table count bytes _ read run.end.0 is (λ slot e. cc) run.end.1
+outcome-is s table count (Some (Denied addr)) bytes Short read le run is stays few = act-stopped s table count bytes _ read run.end.0 is (λ slot e. cc) run.end.1
+outcome-is s table count (Some (NonCanonical addr)) bytes Short read le run is stays few = act-stopped s table count bytes _ read run.end.0 is (λ slot e. cc) run.end.1
+outcome-is s table count (Some (Away slot)) bytes Short read le run is stays few = tt
+
+-- a fetch that stops is no instruction
+stopped-fits : (stop : Option Miss) → IsFetchFit (stopped stop)
+stopped-fits None = tt
+stopped-fits (Some (Unmapped addr)) = tt
+stopped-fits (Some (Denied addr)) = tt
+stopped-fits (Some (NonCanonical addr)) = tt
+stopped-fits (Some (Away slot)) = tt
+
+-- an instruction that was fetched is one that was seen
+pub outcome-fits : (bytes : List ℕ) (what : Seen) (stop : Option Miss) → InRange bytes what
+    → ((d : Decoded) (n : ℕ) → what ≡ Instr d n → IsInstr bytes d n) → IsFetchFit (outcome what stop)
+outcome-fits bytes (Instr d n) stop within instr = ((instr d n refl).decoded, within.1, within.3)
+outcome-fits bytes Short stop within instr = stopped-fits stop
+outcome-fits bytes TooLong stop within instr = tt
+outcome-fits bytes Bad stop within instr = tt
 
 -- a run ends at the page that is needed
 NeedsPage-end : (table : Table) (byte : ℕ → ℕ) (addr slot count : ℕ) (stop : Option Miss) → IsRun table addr 15 count stop
@@ -234,6 +232,7 @@ NeedsPage-end table byte addr slot count stop run needs = at_end stop run.end
         let here : blocked table Execute (addr + needs.count) 1 ≡ Some miss = rw same at end.1 in
         (same, sym here ∙ away)
 
+-- a byte that needs a page is on an away page
 stopped-away : (stop : Option Miss) (slot : ℕ) → stopped stop ≡ Need slot → stop ≡ Some (Away slot)
 stopped-away None slot e = cc
 stopped-away (Some (Unmapped addr)) slot e = cc
@@ -241,11 +240,14 @@ stopped-away (Some (Denied addr)) slot e = cc
 stopped-away (Some (NonCanonical addr)) slot e = cc
 stopped-away (Some (Away other)) slot e = cc
 
+-- a fetch that needs a page is short of it
 outcome-away : (what : Seen) (stop : Option Miss) (slot : ℕ) → outcome what stop ≡ Need slot → (what ≡ Short) × (stop ≡ Some (Away slot))
-outcome-away (Spells instruction len) stop slot e = cc
+outcome-away (Instr d len) stop slot e = cc
+outcome-away TooLong stop slot e = cc
 outcome-away Bad stop slot e = cc
 outcome-away Short stop slot e = (refl, stopped-away stop slot e)
 
+-- a run that stops at an away page
 run-away : (table : Table) (addr count slot : ℕ) (stop : Option Miss) → stop ≡ Some (Away slot) → IsRun table addr 15 count stop
     → (count < 15) × (blocked table Execute (addr + count) 1 ≡ Some (Away slot))
 run-away table addr count slot None e run = cc

@@ -1,2 +1,6 @@
+pub mod Walks
+pub mod Steps
+pub mod Parts
+pub mod Local
+pub mod Frame
 pub mod FetchLemmas
-pub mod ShapeLemmas

@@ -1,87 +1,175 @@
 -- A step of the machine, but for the answer of a system call and for the signal of a fault.
-use Rattle.std.specs.Prelude.{ℕ, ◌+◌, ◌-◌, ◌%◌, ◌^◌, ◌==◌, Bool, true, false, nat_le, Option, Some, None, slice_index, slice_set, bit_xor, count_ones}
+use Rattle.std.specs.Prelude.{ℕ, ◌+◌, ◌/◌, ◌^◌, true, false, if◌then◌else◌, List, Option, Some, None, slice_get, slice_index, slice_set}
+use Rattle.byteorder.specs.Endian.{little_bytes}
 use Rattle.machine_state.specs.declared.kinds.Kind.TheVariants.{Execute}
 use Rattle.machine_state.specs.declared.kinds.Miss.{Miss}
 use Rattle.machine_state.specs.declared.kinds.Miss.TheVariants.{Unmapped, Denied, NonCanonical, Away}
-use Rattle.machine_state.specs.declared.kinds.Fault.{Fault}
-use Rattle.machine_state.specs.declared.kinds.Fault.TheVariants.{Undefined, General, Page}
-use Rattle.machine_state.specs.declared.kinds.Flags.{Flags}
-use Rattle.machine_state.specs.Memory.{first_miss, allowed_run}
-use Rattle.machine_state.specs.State.{State, flags_word}
-use Rattle.core_step.specs.declared.instruction.Size.{Size}
-use Rattle.core_step.specs.declared.instruction.Size.TheVariants.{Double, Quad}
-use Rattle.core_step.specs.declared.instruction.Instruction.{Instruction}
-use Rattle.core_step.specs.declared.instruction.Instruction.TheVariants.{Move, LoadAddress, Xor, SystemCall}
-use Rattle.core_step.specs.declared.instruction.Seen.{Seen}
-use Rattle.core_step.specs.declared.instruction.Seen.TheVariants.{Spells, Short, Bad}
+use Rattle.gpr_flags.specs.declared.kinds.Fault.{Fault}
+use Rattle.gpr_flags.specs.declared.kinds.Fault.TheVariants.{Undefined, General, Page}
+use Rattle.machine_state.specs.Memory.{first_miss, allowed_run, written}
+use Rattle.machine_state.specs.State.{State}
+use Rattle.row_table.specs.declared.kinds.Row.{Row}
+use Rattle.row_table.specs.declared.kinds.Decoded.{Decoded}
+use Rattle.row_table.specs.Rows.{rows}
+use Rattle.x_decode.specs.declared.kinds.Seen.{Seen}
+use Rattle.x_decode.specs.declared.kinds.Seen.TheVariants.{Instr, Short, TooLong, Bad}
+use Rattle.x_decode.specs.Seeing.{seen}
 use Rattle.core_step.specs.declared.acted.Acted.{Acted}
-use Rattle.core_step.specs.declared.acted.Acted.TheVariants.{Done, Call, Trap}
-use Rattle.core_step.specs.Decode.{seen}
+use Rattle.core_step.specs.declared.acted.Acted.TheVariants.{Done, Trap}
+use Rattle.core_step.specs.declared.kinds.Size.{Size}
+use Rattle.core_step.specs.declared.kinds.Operand.{Operand}
+use Rattle.core_step.specs.declared.kinds.Operand.TheVariants.{Absent, Register, HighByte, Memory, Number}
+use Rattle.core_step.specs.declared.kinds.Use.{Use}
+use Rattle.core_step.specs.declared.kinds.Use.TheVariants.{Read, Write, Update}
+use Rattle.core_step.specs.declared.kinds.Instruction.{Instruction}
+use Rattle.core_step.specs.declared.kinds.Outcome.{Outcome}
+use Rattle.core_step.specs.declared.kinds.PairPlan.{PairPlan}
+use Rattle.core_step.specs.declared.kinds.Plan.{Plan}
+use Rattle.core_step.specs.declared.kinds.Plan.TheVariants.{Plain, OnStrings, OnPair}
+use Rattle.string_unit.specs.Strings.{number_at}
+use Rattle.core_step.specs.Size.{bytes_in, cut, register_with, with_high_byte}
+use Rattle.core_step.specs.Operands.{use_of}
+use Rattle.core_step.specs.Access.{first_fault}
+use Rattle.core_step.specs.Strings.{strings_left}
+use Rattle.core_step.specs.Pair.{is_misaligned, pair_left}
+use Rattle.core_step.specs.Plan.{plan_of, plan_accesses}
+use Rattle.core_step.specs.Result.{outcome_of}
 
 -- how a step ends, and the state that it leaves
 pub record After : Type 0 where
   pub acted : Acted
   pub state : State
 
--- how many bits an operand has (SDM volume 1, 3.6.1)
-abbrev pub bits_of : Size → ℕ
-bits_of Double = 32
-bits_of Quad = 64
-
--- a number cut to the operand size; with 32 bits the upper half of the register is cleared (SDM volume 1, 3.4.1.1)
-abbrev pub cut : Size → ℕ → ℕ
-cut size number = number % 2 ^ bits_of size
-
--- whether the highest bit of a number of the operand size is 1
-abbrev pub is_negative : Size → ℕ → Bool
-is_negative size number = nat_le (2 ^ (bits_of size - 1)) number
-
--- the flags of a logical result: SF is its highest bit, ZF says that it is 0, PF that the number of 1 bits in its lowest
--- byte is even, CF and OF are cleared (SDM volume 1, 3.4.3.1); AF, which the SDM leaves open, stays (this program's own)
-abbrev pub logic_flags : Size → ℕ → Flags → Flags
-logic_flags size result flags = record flags {
-  cf = false;
-  pf = count_ones (result % 256) % 2 == 0;
-  zf = result == 0;
-  sf = is_negative size result;
-  ovf = false;
-}
-
-abbrev pub register : ℕ → State → ℕ
-register number s = slice_index s.gprs number
-
-abbrev pub with_register : ℕ → ℕ → State → State
-with_register number value s = record s { gprs = slice_set s.gprs number value }
-
--- a result in a register, with its flags
-abbrev pub with_logic : ℕ → Size → ℕ → State → State
-with_logic to size result s = record (with_register to result s) { flags = logic_flags size result s.flags }
-
--- a completed step: one is added to the steps, and the instruction pointer moves on
-abbrev pub completed : ℕ → State → After
-completed next s = record { acted = Done; state = record s { rip = next; steps = s.steps + 1 } }
-
--- a call: rcx, which is register 1, has the address of the next instruction, and r11 the flags (SDM volume 2, SYSCALL);
--- the step is counted when the call is answered
-abbrev pub called : ℕ → State → After
-called next s = record {
-  acted = Call;
-  state = with_register 11 (flags_word s.flags) (with_register 1 next (record s { rip = next }));
-}
-
--- an instruction performed, where the next one stands at `next` (SDM volume 2, MOV, LEA, XOR, SYSCALL)
-abbrev pub performed : Instruction → ℕ → State → After
-performed (Move to value) next s = completed next (with_register to value s)
-performed (LoadAddress to size displacement) next s =
-    completed next (with_register to (cut size (next + displacement)) s)
-performed (Xor to from size) next s =
-    completed next (with_logic to size (cut size (bit_xor (register to s) (register from s))) s)
-performed SystemCall next s = called next s
-
 -- a fault changes nothing
 abbrev pub trapped : Fault → State → After
 trapped fault s = record { acted = Trap fault; state = s }
 
+-- ---- the numbers of operands
+-- the number of an operand that isn't in memory
+abbrev pub register_value : Operand → Size → List ℕ → ℕ
+register_value Absent size gprs = 0
+register_value (Register number) size gprs = cut size (slice_index gprs number)
+register_value (HighByte number) size gprs = cut size (slice_index gprs number / 2 ^ 8)
+register_value (Memory addr) size gprs = 0
+register_value (Number number) size gprs = cut size number
+
+unfoldable pub value_of : Operand → Size → List ℕ → (ℕ → ℕ) → ℕ
+value_of (Memory addr) size gprs byte = number_at byte addr (bytes_in size)
+value_of other size gprs byte = register_value other size gprs
+
+-- what stood in the destination; where it is only written, that doesn't count
+abbrev pub old_value : Use → Operand → Size → List ℕ → (ℕ → ℕ) → ℕ
+old_value Read operand size gprs byte = value_of operand size gprs byte
+old_value Update operand size gprs byte = value_of operand size gprs byte
+old_value Write operand size gprs byte = 0
+
+-- ---- where the numbers go
+abbrev pub gprs_with : Operand → Size → ℕ → List ℕ → List ℕ
+gprs_with Absent size number gprs = gprs
+gprs_with (Register to) size number gprs = slice_set gprs to (register_with size (slice_index gprs to) number)
+gprs_with (HighByte to) size number gprs = slice_set gprs to (with_high_byte (slice_index gprs to) number)
+gprs_with (Memory addr) size number gprs = gprs
+gprs_with (Number other) size number gprs = gprs
+
+-- the registers with a number in an operand, where there is a number and the operand is a register
+abbrev pub gprs_after : Operand → Size → Option ℕ → List ℕ → List ℕ
+gprs_after operand size None gprs = gprs
+gprs_after operand size (Some number) gprs = gprs_with operand size number gprs
+
+-- the lowest bytes of a number, as many as the size has, the lowest first
+abbrev pub bytes_of : Size → ℕ → List ℕ
+bytes_of size number = little_bytes (bytes_in size) (cut size number)
+
+abbrev pub byte_with : Operand → Size → ℕ → (ℕ → ℕ) → ℕ → ℕ
+byte_with (Memory addr) size number byte = written byte addr (bytes_of size number)
+byte_with Absent size number byte = byte
+byte_with (Register to) size number byte = byte
+byte_with (HighByte to) size number byte = byte
+byte_with (Number other) size number byte = byte
+
+-- the bytes of memory with a number in an operand, where there is a number and the operand is in memory
+abbrev pub byte_after : Operand → Size → Option ℕ → (ℕ → ℕ) → ℕ → ℕ
+byte_after operand size None byte = byte
+byte_after operand size (Some number) byte = byte_with operand size number byte
+
+-- the new rsp, where there is one
+abbrev pub gprs_stacked : Option ℕ → List ℕ → List ℕ
+gprs_stacked None gprs = gprs
+gprs_stacked (Some rsp) gprs = slice_set gprs 4 rsp
+
+-- what goes to a destination; one that is only read gets nothing
+abbrev pub number_for : Use → Option ℕ → Option ℕ
+number_for Read number = None
+number_for Write number = number
+number_for Update number = number
+
+abbrev pub destination_number : Instruction → Outcome → Option ℕ
+destination_number i o = number_for (use_of i.op) o.destination
+
+-- the registers after an outcome: rsp first, then the third operand, and last the destination
+unfoldable pub gprs_left : Instruction → Outcome → List ℕ → List ℕ
+gprs_left i o gprs =
+    gprs_after i.destination i.size (destination_number i o)
+    (gprs_after i.third i.third_size o.third (gprs_stacked o.stack gprs))
+
+unfoldable pub byte_left : Instruction → Outcome → (ℕ → ℕ) → ℕ → ℕ
+byte_left i o byte = byte_after i.destination i.size (destination_number i o) byte
+
+-- only a completed instruction is counted
+abbrev pub steps_after : Acted → ℕ → ℕ
+steps_after Done steps = steps + 1
+steps_after acted steps = steps
+
+-- the state after an outcome
+abbrev pub left_by : Instruction → Outcome → State → State
+left_by i o s = record s {
+  gprs = gprs_left i o s.gprs;
+  flags = o.flags;
+  rip = o.rip;
+  steps = steps_after o.acted s.steps;
+  memory = record s.memory { byte = byte_left i o s.memory.byte };
+}
+
+-- ---- an instruction performed
+abbrev pub outcome_in : Instruction → State → Outcome
+outcome_in i s =
+    outcome_of i (old_value (use_of i.op) i.destination i.size s.gprs s.memory.byte)
+    (value_of i.source i.source_size s.gprs s.memory.byte) (register_value i.third i.third_size s.gprs) s.flags s.steps
+
+abbrev pub completed : Instruction → Outcome → State → After
+completed i o s = record { acted = o.acted; state = left_by i o s }
+
+-- a step that is completed
+abbrev pub done : State → After
+done s = record { acted = Done; state = s }
+
+-- a place that isn't a multiple of 16 is refused, where it has to be one
+abbrev pub pair_after : PairPlan → State → After
+pair_after i s = if is_misaligned i then trapped General s else done (pair_left i s)
+
+-- where no access is refused
+abbrev pub plan_after : Plan → State → After
+plan_after (Plain i) s = completed i (outcome_in i s) s
+plan_after (OnStrings i) s = done (strings_left i s)
+plan_after (OnPair i) s = pair_after i s
+
+-- the fault of an access comes before all else
+abbrev pub unless : Option Fault → Plan → State → After
+unless (Some fault) plan s = trapped fault s
+unless None plan s = plan_after plan s
+
+unfoldable pub performed_as : Plan → State → After
+performed_as plan s = unless (first_fault s.memory.perms (plan_accesses plan s.gprs)) plan s
+
+abbrev pub performed_row : Option Row → Decoded → ℕ → State → After
+performed_row (Some row) d len s = performed_as (plan_of row d len s) s
+performed_row None d len s = trapped Undefined s
+
+-- an instruction that has so many bytes, performed
+unfoldable pub performed : Decoded → ℕ → State → After
+performed d len s = performed_row (slice_get rows d.row) d len s
+
+-- ---- a step
 -- the fault of a fetch whose bytes are short, by the first byte that isn't allowed, which is never Away: #PF names it
 -- (SDM volume 3, 4.7); a byte that isn't canonical is #GP, and so are fifteen bytes that don't end (SDM volume 3, 6.15)
 abbrev pub fetch_fault : Option Miss → Fault
@@ -93,8 +181,9 @@ fetch_fault (Some (Away slot)) = General
 
 -- what comes of the bytes at the instruction pointer
 abbrev pub act_on : Seen → State → After
-act_on (Spells instruction count) s = performed instruction ((s.rip + count) % 2 ^ 64) s
+act_on (Instr d len) s = performed d len s
 act_on Short s = trapped (fetch_fault (first_miss s.memory.perms Execute s.rip 15)) s
+act_on TooLong s = trapped General s
 act_on Bad s = trapped Undefined s
 
 -- a step, by the bytes from the instruction pointer up to the first that isn't allowed, at most fifteen

@@ -1,17 +1,18 @@
 -- The fetch of an instruction, as far as its bytes can be had now.
-use Rattle.std.specs.Prelude.{ℕ, ◌≡◌, ◌<◌, ◌+◌, ◌/◌, ◌%◌, ◌^◌, true, false, Option, Some, None, MatchOption, ⊤}
+use Rattle.std.specs.Prelude.{ℕ, ◌≡◌, ◌<◌, ◌≤◌, ◌+◌, ◌/◌, true, false, Option, Some, None, MatchOption, ⊤}
 use Rattle.machine_state.specs.declared.kinds.Kind.TheVariants.{Execute}
 use Rattle.machine_state.specs.declared.kinds.Miss.{Miss}
 use Rattle.machine_state.specs.declared.kinds.Miss.TheVariants.{Unmapped, Denied, NonCanonical, Away}
-use Rattle.machine_state.specs.declared.kinds.Fault.TheVariants.{Undefined, General, Page}
+use Rattle.gpr_flags.specs.declared.kinds.Fault.TheVariants.{Undefined, General, Page}
 use Rattle.machine_state.specs.Memory.{miss_at, bytes_at}
 use Rattle.machine_state.specs.State.{State}
 use Rattle.guest_pages.specs.Table.{Table, perms_in, away_at, blocked}
+use Rattle.legacy_decode.specs.Spelling.{IsDecoded}
+use Rattle.x_decode.specs.declared.kinds.Seen.{Seen}
+use Rattle.x_decode.specs.declared.kinds.Seen.TheVariants.{Instr as Spells, Short, TooLong, Bad}
+use Rattle.x_decode.specs.Seeing.{seen}
 use Rattle.core_step.specs.declared.fetching.Fetched.{Fetched}
 use Rattle.core_step.specs.declared.fetching.Fetched.TheVariants.{Instr, Trap, Need}
-use Rattle.core_step.specs.declared.instruction.Seen.{Seen}
-use Rattle.core_step.specs.declared.instruction.Seen.TheVariants.{Spells, Short, Bad}
-use Rattle.core_step.specs.Decode.{seen, IsFit}
 use Rattle.core_step.specs.Act.{act, performed, trapped}
 
 -- so many bytes can be fetched now, and they are `most`, or the next one can't
@@ -40,18 +41,19 @@ stopped (Some (Away slot)) = Need slot
 
 -- what comes of bytes by what they spell, and of the next one, which can't be had
 abbrev pub outcome : Seen → Option Miss → Fetched
-outcome (Spells instruction count) stop = Instr instruction count
+outcome (Spells d len) stop = Instr d len
 outcome Short stop = stopped stop
+outcome TooLong stop = Trap General
 outcome Bad stop = Trap Undefined
 
 -- the instruction that was fetched is the one that a step performs, and the fault of a fetch is that of a step
 abbrev pub IsFetched : State → Fetched → Type 0
-IsFetched s (Instr instruction count) = act s ≡ performed instruction ((s.rip + count) % 2 ^ 64) s
+IsFetched s (Instr d len) = act s ≡ performed d len s
 IsFetched s (Trap fault) = act s ≡ trapped fault s
 IsFetched s (Need slot) = ⊤
 
--- the numbers of registers are below 16
+-- the fields of the instruction spell its row, and it has from one to fifteen bytes
 abbrev pub IsFetchFit : Fetched → Type 0
-IsFetchFit (Instr instruction count) = IsFit instruction
+IsFetchFit (Instr d len) = IsDecoded d.fields d × (1 ≤ len) × (len ≤ 15)
 IsFetchFit (Trap fault) = ⊤
 IsFetchFit (Need slot) = ⊤

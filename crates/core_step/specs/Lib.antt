@@ -1,6 +1,13 @@
 pub use Rattle.machine_state.specs.State
-pub mod Decode
-pub mod Shape
+pub mod Size
+pub mod Address
+pub mod Operands
+pub mod Fits
+pub mod Access
+pub mod Strings
+pub mod Pair
+pub mod Plan
+pub mod Result
 pub mod Act
 pub mod Fetch
 pub mod Machine

@@ -1,12 +1,22 @@
--- The state that a machine stands for, and what a step does with it.
-use Rattle.std.specs.Prelude.{ℕ, ◌≡◌, ◌+◌, ⊤}
-use Rattle.machine_state.specs.Memory.{Swap}
+-- The state that a machine stands for, and what the calls on it do with it.
+use Rattle.std.specs.Prelude.{ℕ, ◌≡◌, ◌+◌, ◌/◌, ◌<◌, ◌≤◌, ◌⊎◌, ⊤, Option, Some, None, List, [], slice_get}
+use Rattle.std.specs.List.{All}
+use Rattle.machine_state.specs.declared.kinds.Kind.TheVariants.{Write}
+use Rattle.machine_state.specs.declared.kinds.Miss.{Miss}
+use Rattle.machine_state.specs.declared.kinds.Miss.TheVariants.{Away}
+use Rattle.machine_state.specs.Memory.{Memory, Swap}
 use Rattle.machine_state.specs.State.{State, initial_extended}
 use Rattle.guest_pages.specs.Pages.{memory_of}
+use Rattle.row_table.specs.declared.kinds.Row.{Row}
+use Rattle.row_table.specs.declared.kinds.Decoded.{Decoded}
+use Rattle.row_table.specs.Rows.{rows}
 use Rattle.core_step.specs.declared.machine.Machine.{Machine}
 use Rattle.core_step.specs.declared.acted.Acted.{Acted}
-use Rattle.core_step.specs.declared.acted.Acted.TheVariants.{Done, Call, Need}
-use Rattle.core_step.specs.Act.{After, act}
+use Rattle.core_step.specs.declared.acted.Acted.TheVariants.{Done, Call, Trap, Need}
+use Rattle.string_unit.specs.declared.kinds.Access.{Access}
+use Rattle.core_step.specs.declared.kinds.Stop.{Stop}
+use Rattle.core_step.specs.Plan.{plan_of, plan_accesses}
+use Rattle.core_step.specs.Act.{After, performed}
 
 -- the state that a machine and a swap stand for; what the machine doesn't have is as at the start
 abbrev pub state_of : Machine → Swap → State
@@ -25,18 +35,61 @@ state_of m w = record {
 abbrev pub after_of : Acted → Machine → Swap → After
 after_of acted m w = record { acted = acted; state = state_of m w }
 
--- an answer that isn't Need is the answer of the whole step, and the machine has its state
-abbrev pub IsWhole : Machine → Machine → Acted → Type 0
-IsWhole old new (Need slot) = ⊤
-IsWhole old new acted = (w : Swap) → after_of acted new w ≡ act (state_of old w)
+-- an answer that isn't Need is that of the instruction on whole memory, and the machine has its state
+abbrev pub IsWhole : Decoded → ℕ → Machine → Machine → Acted → Type 0
+IsWhole d len old new (Need slot) = ⊤
+IsWhole d len old new acted = (w : Swap) → after_of acted new w ≡ performed d len (state_of old w)
 
--- a fault and a page that is needed leave the machine as it was
+-- a page that is needed leaves the machine as it was, and so does a fault, but for the instruction pointer
 abbrev pub IsKept : Machine → Machine → Acted → Type 0
 IsKept old new Done = ⊤
 IsKept old new Call = ⊤
-IsKept old new stopped = new ≡ old
+IsKept old new (Trap fault) = new ≡ record old { rip = new.rip }
+IsKept old new (Need slot) = new ≡ old
 
--- the steps after an answer: only a completed instruction is counted here
-abbrev pub steps_after : Acted → ℕ → ℕ
-steps_after Done steps = steps + 1
-steps_after acted steps = steps
+-- ---- the access list of an instruction
+abbrev pub accesses_by : Option Row → Decoded → ℕ → State → List Access
+accesses_by (Some row) d len s = plan_accesses (plan_of row d len s) s.gprs
+accesses_by None d len s = []
+
+unfoldable pub accesses : Decoded → ℕ → State → List Access
+accesses d len s = accesses_by (slice_get rows d.row) d len s
+
+-- the slot of the page that a walk needs, where it stops at an access that is allowed
+abbrev pub away_in : Miss → Option ℕ
+away_in (Away slot) = Some slot
+away_in miss = None
+
+abbrev pub needed : Option Stop → Option ℕ
+needed None = None
+needed (Some stop) = away_in stop.miss
+
+-- ---- an instruction depends on its accesses alone
+-- two memories agree on the bytes of an access, and on the permissions of its pages
+abbrev pub AgreeOn : Memory → Memory → Access → Type 0
+AgreeOn memory other access =
+    (at : ℕ) → access.addr ≤ at → at < access.addr + access.len
+    → (memory.perms (at / 4096) ≡ other.perms (at / 4096)) × (memory.byte at ≡ other.byte at)
+
+-- the same answer and the same state but for memory, where permissions stay, and the bytes are the same again at each address
+-- where they were
+pub record IsSame (memory other : Memory) (a b : After) : Type 0 where
+  pub acted : a.acted ≡ b.acted
+  pub state : record a.state { memory = b.state.memory } ≡ b.state
+  pub perms_stay : (a.state.memory.perms ≡ memory.perms) × (b.state.memory.perms ≡ other.perms)
+  pub byte_is : (at : ℕ) → memory.byte at ≡ other.byte at → a.state.memory.byte at ≡ b.state.memory.byte at
+
+-- memories that agree in permissions and bytes on the access list give the same
+abbrev pub IsLocal : Decoded → ℕ → State → Type 0
+IsLocal d len s =
+    (other : Memory) → All (AgreeOn s.memory other) (accesses d len s)
+    → IsSame s.memory other (performed d len s) (performed d len (record s { memory = other }))
+
+-- ---- an instruction writes within its accesses alone
+-- an access doesn't write the byte at an address
+abbrev pub SparesByte : ℕ → Access → Type 0
+SparesByte at access = access.kind ≡ Write → (at < access.addr) ⊎ (access.addr + access.len ≤ at)
+
+-- a byte that no access of kind write has stays
+abbrev pub IsFramed : Decoded → ℕ → State → Type 0
+IsFramed d len s = (at : ℕ) → All (SparesByte at) (accesses d len s) → (performed d len s).state.memory.byte at ≡ s.memory.byte at

@@ -1,6 +1,6 @@
 //! How a step ends.
 
-use machine_state::Fault;
+use gpr_flags::Fault;
 
 /// How a step ends.
 #[derive(Clone, Copy, Debug, PartialEq, Eq)]

@@ -1,20 +1,22 @@
 //! The fetch of an instruction.
-ghost use Rattle.std.specs.Prelude.{◌≡◌, ◌<◌, ◌≤◌, ◌+◌, ◌^◌, ℕ, take, length, None, OnOk, IfOk, IfErr};
+ghost use Rattle.std.specs.Prelude.{◌≡◌, ◌<◌, ◌≤◌, ◌+◌, ◌-◌, ◌%◌, ℕ, take, length, None};
 ghost use Rattle.machine_state.specs.Memory.{Swap, bytes_at};
 ghost use Rattle.guest_pages.specs.Table.{blocked};
 ghost use Rattle.guest_pages.specs.Pages.{table_of, byte_of};
-ghost use Rattle.core_step.specs.Decode.{IsSeenFit};
-ghost use Rattle.core_step.specs.Fetch.{IsRun, IsFetchFit, stopped as stopped_by, outcome as outcome_of};
+ghost use Rattle.guest_pages.specs.Changes.{IsShown};
+ghost use Rattle.core_step.specs.Fetch.{IsRun, stopped as stopped_by, outcome as outcome_of};
 
-use crate::instruction::{Instruction, Seen};
+use gpr_flags::Fault;
 use guest_pages::Pages;
-use machine_state::{Fault, Kind, Miss};
+use machine_state::{Kind, Miss};
+use row_table::Decoded;
+use x_decode::Seen;
 
 /// How a fetch ends.
-#[derive(Clone, Copy, Debug, PartialEq, Eq)]
+#[derive(Clone, Copy)]
 pub enum Fetched {
     /// This instruction, which has so many bytes.
-    Instr(Instruction, u8),
+    Instr(Decoded, u8),
     Trap(Fault),
     /// The page in this slot has to be brought into a frame first.
     Need(u32),
@@ -27,36 +29,64 @@ pub struct Run {
     pub stop: Option<Miss>,
 }
 
-// Reads the executable bytes from an address up, as far as they can be had now. Mostly all can be had at once.
+// Reads the executable bytes from an address up, as far as they can be had now. Each page is looked at once.
 pub(crate) fn read_run(pages: &Pages, addr: u64, into: &mut [u8]) -> Run
+    requires some { 0 < length into.old }
+    requires two_pages { length into.old ≤ 4096 }
     ensures count { result.count ≤ length into.new }
     ensures run { IsRun (table_of pages.now) addr (length into.new) result.count result.stop }
     ensures bytes { (w : Swap) → take result.count into.new ≡ bytes_at (byte_of pages.now w) addr result.count }
 {
-    match pages.read(addr, into, Kind::Execute) {
-        Ok(()) => Run {
-            count: into.len(),
-            stop: None,
-        },
-        Err(_) => read_each(pages, addr, into),
+    let here = count_on_page(addr, into.len());
+    match pages.view(addr, here, Kind::Execute) {
+        Ok(bytes) => into[..here].copy_from_slice(bytes),
+        Err(miss) => {
+            return Run {
+                count: 0,
+                stop: Some(miss),
+            };
+        }
     }
+    if here == into.len() {
+        return Run {
+            count: here,
+            stop: None,
+        };
+    }
+    read_rest(pages, addr, into, here)
 }
 
-// The same, byte by byte.
-fn read_each(pages: &Pages, addr: u64, into: &mut [u8]) -> Run
+// How many of some bytes from an address up lie on its page.
+fn count_on_page(addr: u64, count: usize) -> usize
+    requires some { 0 < count }
+    ensures some { 0 < result }
+    ensures within { result ≤ count }
+    ensures one_page { addr % 4096 + result ≤ 4096 }
+    ensures rest { result < count → (addr + result) % 4096 ≡ 0 }
+{
+    let page_left = 4096 - (addr % 4096) as usize;
+    if count <= page_left { count } else { page_left }
+}
+
+// Reads the bytes behind the first `here`, which were read. They begin a page and lie on it.
+fn read_rest(pages: &Pages, addr: u64, into: &mut [u8], here: usize) -> Run
+    requires more { here < length into.old }
+    requires page { (addr + here) % 4096 ≡ 0 }
+    requires one_page { length into.old - here ≤ 4096 }
+    requires low { addr + here ≤ 0x800000000000 }
+    requires ready { blocked (table_of pages.now) Kind.Execute addr here ≡ None }
+    requires shown { IsShown pages.now addr here (take here into.old) }
     ensures count { result.count ≤ length into.new }
     ensures run { IsRun (table_of pages.now) addr (length into.new) result.count result.stop }
     ensures bytes { (w : Swap) → take result.count into.new ≡ bytes_at (byte_of pages.now w) addr result.count }
 {
-    for count in 0..into.len() {
-        match read_byte(pages, addr + count as u64) {
-            Ok(byte) => into[count] = byte,
-            Err(miss) => {
-                return Run {
-                    count,
-                    stop: Some(miss),
-                };
-            }
+    match pages.view(addr + here as u64, into.len() - here, Kind::Execute) {
+        Ok(bytes) => into[here..].copy_from_slice(bytes),
+        Err(miss) => {
+            return Run {
+                count: here,
+                stop: Some(miss),
+            };
         }
     }
     Run {
@@ -65,23 +95,9 @@ fn read_each(pages: &Pages, addr: u64, into: &mut [u8]) -> Run
     }
 }
 
-// The byte at an address, where it can be fetched now.
-fn read_byte(pages: &Pages, addr: u64) -> Result<u8, Miss>
-    ensures ok { OnOk result (blocked (table_of pages.now) Kind.Execute addr 1 ≡ None) }
-    ensures low { OnOk result (addr + 1 < 2 ^ 64) }
-    ensures byte { IfOk result (λ byte. (w : Swap) → byte ≡ byte_of pages.now w addr) }
-    ensures err { IfErr result (λ miss. blocked (table_of pages.now) Kind.Execute addr 1 ≡ Some miss) }
-{
-    pages.ready(addr, 1, Kind::Execute)?;
-    let mut byte = [0; 1];
-    pages.read(addr, &mut byte, Kind::Execute)?;
-    Ok(byte[0])
-}
-
 // What comes of a byte that can't be had, where those before it are short.
 fn stopped(stop: Option<Miss>) -> Fetched
-    ensures value { result ≡ stopped_by stop }
-    ensures fits { IsFetchFit result }
+    ensures { result ≡ stopped_by stop }
 {
     match stop {
         None => Fetched::Trap(Fault::General),
@@ -104,13 +120,12 @@ fn stopped(stop: Option<Miss>) -> Fetched
 
 // What comes of bytes by what they spell, and of the next one, which can't be had.
 pub(crate) fn outcome(seen: Seen, stop: Option<Miss>) -> Fetched
-    requires { IsSeenFit 10 seen }
-    ensures value { result ≡ outcome_of seen stop }
-    ensures fits { IsFetchFit result }
+    ensures { result ≡ outcome_of seen stop }
 {
     match seen {
-        Seen::Spells(instruction, length) => Fetched::Instr(instruction, length),
+        Seen::Instr(d, len) => Fetched::Instr(d, len),
         Seen::Short => stopped(stop),
+        Seen::TooLong => Fetched::Trap(Fault::General),
         Seen::Bad => Fetched::Trap(Fault::Undefined),
     }
 }

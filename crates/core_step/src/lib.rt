@@ -1,19 +1,30 @@
-//! One step of the machine: an instruction is fetched, told from its bytes, and performed. There are four instructions:
-//! MOV of a number to a register, LEA relative to the instruction pointer, XOR of registers, and SYSCALL.
+//! A step of the machine: an instruction is fetched, told from its bytes by the row table, and performed. Performing goes
+//! by stages that are the same for all rows: the operands are found, the access list is walked, what it reads is loaded,
+//! the numbers that come of it are worked out, and these are put to their places.
 #![tactic(auto)]
 
+mod accesses;
 mod acted;
-mod decoding;
+mod addressing;
 mod fetching;
-mod gprs;
-mod instruction;
+mod flags;
+mod kinds;
 mod machine;
-mod performing;
+mod operands;
+mod pair;
+mod planning;
+mod resolving;
+mod results;
+mod sizes;
+mod strings;
 #[cfg(test)]
 mod tests;
+mod values;
 
 pub use acted::Acted;
-pub use gprs::Gprs;
+pub use fetching::Fetched;
+pub use gpr_flags::{Fault, Flags, Gprs};
 pub use guest_pages::Pages;
 pub use machine::Machine;
-pub use machine_state::{Fault, Flags, Kind, Perms};
+pub use machine_state::{Kind, Perms};
+pub use row_table::Decoded;

@@ -1,20 +1,36 @@
-//! The machine, and its step.
-ghost use Rattle.std.specs.Prelude.{◌≡◌, ◌↔◌, ◌<◌, ◌+◌, ◌-◌, ◌^◌, ℕ, slice_set};
+//! The machine: it fetches an instruction and performs it.
+ghost use Rattle.std.specs.Prelude.{◌≡◌, ◌↔◌, ◌<◌, ◌≤◌, ◌+◌, ◌-◌, ◌^◌, ℕ, Some, None, slice_get, length};
 ghost use Rattle.machine_state.specs.Memory.{Swap};
+ghost use Rattle.guest_pages.specs.Table.{blocked};
 ghost use Rattle.guest_pages.specs.Pages.{table_of, byte_of};
-ghost use Rattle.core_step.specs.Decode.{IsFit};
-ghost use Rattle.core_step.specs.Act.{performed};
+ghost use Rattle.guest_pages.specs.Changes.{KeepsTable};
+ghost use Rattle.legacy_decode.specs.Spelling.{IsDecoded};
+ghost use Rattle.row_table.specs.Rows.{rows};
+ghost use Rattle.string_unit.specs.Strings.{string_accesses};
+ghost use Rattle.core_step.specs.Size.{bytes_in};
+ghost use Rattle.core_step.specs.Access.{accesses_of, walk};
+ghost use Rattle.core_step.specs.Strings.{source_of, destination_of, strings_access, iterated, strings_left};
+ghost use Rattle.core_step.specs.Pair.{pair_bytes, pair_access, pair_left};
+ghost use Rattle.core_step.specs.Plan.{plan_accesses};
+ghost use Rattle.core_step.specs.Act.{outcome_in, completed, pair_after, plan_after, steps_after, gprs_left, byte_left, destination_number};
+ghost use Rattle.core_step.specs.Fits.{InstructionFits, PlanFits};
 ghost use Rattle.core_step.specs.Fetch.{NeedsPage, IsFetched, IsFetchFit};
-ghost use Rattle.core_step.specs.Machine.{IsWhole, IsKept, steps_after, after_of, state_of};
+ghost use Rattle.core_step.specs.Machine.{IsWhole, IsKept, IsLocal, IsFramed, accesses, needed, state_of, after_of};
 
-use crate::Gprs;
+use crate::accesses::{answer, check_all};
 use crate::acted::Acted;
-use crate::decoding::decode;
-use crate::fetching::{Fetched, outcome, read_run};
-use crate::instruction::Instruction;
-use crate::performing::{cut, flags_word, logic_flags};
+use crate::fetching::{Fetched, outcome as fetched, read_run};
+use crate::kinds::{Instruction, Outcome, PairPlan, Plan, StringPlan};
+use crate::operands::destination_use;
+use crate::pair::{exchange_memory, exchange_registers, is_equal, is_misaligned, load};
+use crate::results::outcome;
+use crate::strings::{count, is_over, iterate_once, lower_count, rip_after};
+use crate::values::{move_stack, number_for, old_value, put, put_register, register_value, value};
+use gpr_flags::{Fault, Flags, Gprs};
 use guest_pages::Pages;
-use machine_state::Flags;
+use machine_state::Kind;
+use row_table::{Decoded, row};
+use x_decode::decode;
 
 /// The processor with its memory: general registers, flags, instruction pointer, pages, and the number of completed
 /// steps.
@@ -28,80 +44,193 @@ pub struct Machine {
 }
 
 impl Machine {
-    /// Fetches and performs the instruction at `rip`: one step, but for the answer of a system call and for the
-    /// signal of a fault. The caller counts the step of a `Call` when it is answered, and of a `Trap` when the
-    /// signal is delivered or ends the program. After `Need` it brings the page and takes the same step again.
-    pub fn step(&mut self) -> Acted
-        requires { self.old.steps < 2 ^ 64 - 1 }
-        ensures whole { IsWhole self.old self.new result }
-        // Exactly where the page in that slot is needed before the instruction can be told.
-        ensures need { (w : Swap) (slot : ℕ) → (result ≡ Acted.Need slot)
-            ↔ NeedsPage (table_of self.old.pages) (byte_of self.old.pages w) self.old.rip slot }
-        ensures kept { IsKept self.old self.new result }
-        ensures pages { self.new.pages ≡ self.old.pages }
-        ensures counted { self.new.steps ≡ steps_after result self.old.steps }
-    {
-        match self.fetch() {
-            Fetched::Instr(instruction, length) => {
-                let next = self.rip.wrapping_add(length as u64);
-                self.perform(instruction, next)
-            }
-            Fetched::Trap(fault) => Acted::Trap(fault),
-            Fetched::Need(slot) => Acted::Need(slot),
-        }
-    }
-
-    // Fetches the instruction at the instruction pointer.
-    fn fetch(&self) -> Fetched
+    /// Fetches the instruction at `rip`. After `Need` the caller brings the page and fetches again.
+    pub fn fetch(&self) -> Fetched
         ensures whole { (w : Swap) → IsFetched (state_of self.now w) result }
+        // Exactly where the page in that slot is needed before the instruction can be told.
         ensures need { (w : Swap) (slot : ℕ) → (result ≡ Fetched.Need slot)
             ↔ NeedsPage (table_of self.now.pages) (byte_of self.now.pages w) self.now.rip slot }
         ensures fits { IsFetchFit result }
     {
         let mut bytes = [0; 15];
         let run = read_run(&self.pages, self.rip, &mut bytes);
-        outcome(decode(&bytes[..run.count]), run.stop)
+        fetched(decode(&bytes[..run.count]), run.stop)
     }
 
-    // Performs an instruction, where the next one stands at `next`.
-    fn perform(&mut self, instruction: Instruction, next: u64) -> Acted
-        requires fits { IsFit instruction }
+    /// Performs an instruction of `len` bytes at `rip`: one step, but for the answer of a system call and for the signal
+    /// of a fault. The caller counts the step of a `Call` when it is answered, and of a `Trap` when the signal is
+    /// delivered or ends the program. After `Need` it brings the page and performs the same instruction.
+    pub fn perform(&mut self, d: &Decoded, len: u8) -> Acted
+        requires spells { IsDecoded d.now.fields d.now }
+        requires some { 1 ≤ len }
+        requires most { len ≤ 15 }
         requires room { self.old.steps < 2 ^ 64 - 1 }
-        ensures whole { (w : Swap) → after_of result self.new w ≡ performed instruction next (state_of self.old w) }
-        ensures pages { self.new.pages ≡ self.old.pages }
+        ensures whole { IsWhole d.now len self.old self.new result }
+        // Exactly where the walk along the access list meets an allowed access on the page in that slot, which is away,
+        // before one that isn't allowed.
+        ensures need { (w : Swap) (slot : ℕ) → (result ≡ Acted.Need slot)
+            ↔ (needed (walk (table_of self.old.pages) (accesses d.now len (state_of self.old w))) ≡ Some slot) }
+        ensures kept { IsKept self.old self.new result }
+        ensures pages { KeepsTable self.old.pages self.new.pages }
         ensures counted { self.new.steps ≡ steps_after result self.old.steps }
+        // Memories that agree on the access list give the same.
+        ensures local { (w : Swap) → IsLocal d.now len (state_of self.old w) }
+        // A byte outside of its write accesses stays.
+        ensures framed { (w : Swap) → IsFramed d.now len (state_of self.old w) }
     {
-        self.rip = next;
-        match instruction {
-            Instruction::Move { to, value } => self.complete(to, value),
-            Instruction::LoadAddress {
-                to,
-                size,
-                displacement,
-            } => self.complete(to, cut(size, next.wrapping_add(displacement))),
-            Instruction::Xor { to, from, size } => {
-                let value = cut(size, self.gprs.get(to) ^ self.gprs.get(from));
-                self.flags = logic_flags(size, value, self.flags);
-                self.complete(to, value)
-            }
-            Instruction::SystemCall => {
-                self.gprs.set(1, next);
-                self.gprs.set(11, flags_word(self.flags));
-                Acted::Call
-            }
+        let plan = self.plan_for(&row(d.row), d, len);
+        match check_all(&self.pages, &plan, &self.gprs) {
+            Err(stop) => answer(stop),
+            Ok(()) => self.finish(&plan),
         }
     }
 
-    // Ends an instruction whose result goes into a register.
-    fn complete(&mut self, to: u8, value: u64) -> Acted
-        requires to { to < 16 }
+    // Performs an instruction whose accesses can be made.
+    fn finish(&mut self, plan: &Plan) -> Acted
+        requires fits { PlanFits plan.now }
+        requires ready { walk (table_of self.old.pages) (plan_accesses plan.now self.old.gprs) ≡ None }
         requires room { self.old.steps < 2 ^ 64 - 1 }
-        ensures answer { result ≡ Acted.Done }
-        ensures after { self.new
-            ≡ record self.old { gprs = slice_set self.old.gprs to value; steps = self.old.steps + 1 } }
+        ensures after { (w : Swap) → after_of result self.new w ≡ plan_after plan.now (state_of self.old w) }
+        ensures own { (slot : ℕ) → result ≡ Acted.Need slot → ⊥ }
+        ensures kept { IsKept self.old self.new result }
+        ensures pages { KeepsTable self.old.pages self.new.pages }
+        ensures counted { self.new.steps ≡ steps_after result self.old.steps }
     {
-        self.gprs.set(to, value);
+        match plan {
+            Plan::Plain(i) => self.complete(i),
+            Plan::OnStrings(i) => self.pass_strings(i),
+            Plan::OnPair(i) => self.exchange(i),
+        }
+    }
+
+    // Goes on with the next instruction.
+    fn move_on(&mut self, rip: u64)
+        requires { self.old.steps < 2 ^ 64 - 1 }
+        ensures { self.new ≡ record self.old { rip = rip; steps = self.old.steps + 1 } }
+    {
+        self.rip = rip;
         self.steps += 1;
-        Acted::Done
+    }
+
+    // Performs an instruction on strings whose accesses can be made.
+    #[tactic(auto, unfolding(crate::specs::Strings::strings_access))]
+    fn pass_strings(&mut self, i: &StringPlan) -> Acted
+        requires ready { walk (table_of self.old.pages) (strings_access i.now self.old.gprs) ≡ None }
+        requires room { self.old.steps < 2 ^ 64 - 1 }
+        ensures done { result ≡ Acted.Done }
+        ensures state { (w : Swap) → state_of self.new w ≡ strings_left i.now (state_of self.old w) }
+        ensures pages { KeepsTable self.old.pages self.new.pages }
+        ensures steps { self.new.steps ≡ self.old.steps + 1 }
+    {
+        if is_over(i, &self.gprs) {
+            self.move_on(i.next);
+            Acted::Done
+        } else {
+            self.repeat(i);
+            Acted::Done
+        }
+    }
+
+    // One iteration, whose accesses can be made.
+    fn repeat(&mut self, i: &StringPlan)
+        requires ready { walk (table_of self.old.pages) (string_accesses i.now.op (bytes_in i.now.size)
+            (source_of i.now self.old.gprs) (destination_of i.now self.old.gprs)) ≡ None }
+        requires room { self.old.steps < 2 ^ 64 - 1 }
+        ensures state { (w : Swap) → state_of self.new w ≡ iterated i.now (state_of self.old w) }
+        ensures pages { KeepsTable self.old.pages self.new.pages }
+        ensures steps { self.new.steps ≡ self.old.steps + 1 }
+    {
+        let count = count(i, &self.gprs);
+        iterate_once(i, &mut self.gprs, &mut self.flags, &mut self.pages);
+        lower_count(i, count, &mut self.gprs);
+        let rip = rip_after(i, count, self.flags, self.rip);
+        self.move_on(rip);
+    }
+
+    // Performs CMPXCHG8B or CMPXCHG16B, whose access can be made.
+    #[tactic(auto, unfolding(crate::specs::Pair::pair_access))]
+    fn exchange(&mut self, i: &PairPlan) -> Acted
+        requires ready { walk (table_of self.old.pages) (pair_access i.now) ≡ None }
+        requires room { self.old.steps < 2 ^ 64 - 1 }
+        ensures after { (w : Swap) → after_of result self.new w ≡ pair_after i.now (state_of self.old w) }
+        ensures own { (slot : ℕ) → result ≡ Acted.Need slot → ⊥ }
+        ensures kept { IsKept self.old self.new result }
+        ensures pages { KeepsTable self.old.pages self.new.pages }
+        ensures counted { self.new.steps ≡ steps_after result self.old.steps }
+    {
+        if is_misaligned(i) {
+            Acted::Trap(Fault::General)
+        } else {
+            self.exchange_pair(i);
+            Acted::Done
+        }
+    }
+
+    // The same where the place is right.
+    fn exchange_pair(&mut self, i: &PairPlan)
+        requires ready { blocked (table_of self.old.pages) Kind.Write i.now.addr (pair_bytes i.now) ≡ None }
+        requires room { self.old.steps < 2 ^ 64 - 1 }
+        ensures state { (w : Swap) → state_of self.new w ≡ pair_left i.now (state_of self.old w) }
+        ensures pages { KeepsTable self.old.pages self.new.pages }
+        ensures steps { self.new.steps ≡ self.old.steps + 1 }
+    {
+        let found = load(i, &self.pages);
+        let equal = is_equal(i.half, found, &self.gprs);
+        exchange_memory(i, found, &self.gprs, &mut self.pages);
+        exchange_registers(i, found, &mut self.gprs);
+        self.flags.zf = equal;
+        self.move_on(i.next);
+    }
+
+    // Performs an instruction whose operands are found and whose accesses can be made.
+    fn complete(&mut self, i: &Instruction) -> Acted
+        requires fits { InstructionFits i.now }
+        requires ready { walk (table_of self.old.pages) (accesses_of i.now) ≡ None }
+        requires room { self.old.steps < 2 ^ 64 - 1 }
+        ensures after { (w : Swap) → after_of result self.new w
+            ≡ completed i.now (outcome_in i.now (state_of self.old w)) (state_of self.old w) }
+        ensures own { (slot : ℕ) → result ≡ Acted.Need slot → ⊥ }
+        ensures kept { IsKept self.old self.new result }
+        ensures pages { KeepsTable self.old.pages self.new.pages }
+        ensures counted { self.new.steps ≡ steps_after result self.old.steps }
+    {
+        let use_of_it = destination_use(i.op);
+        let a = old_value(use_of_it, i.destination, i.size, &self.gprs, &self.pages);
+        let b = value(i.source, i.source_size, Kind::Read, &self.gprs, &self.pages);
+        let c = register_value(i.third, i.third_size, &self.gprs);
+        let outcome = outcome(i, a, b, c, self.flags, self.steps);
+        self.leave(i, &outcome);
+        outcome.acted
+    }
+
+    // Puts what comes of an instruction to its places.
+    #[tactic(auto, unfolding(crate::specs::Act::gprs_left, crate::specs::Act::byte_left))]
+    fn leave(&mut self, i: &Instruction, o: &Outcome)
+        requires fits { InstructionFits i.now }
+        requires ready { walk (table_of self.old.pages) (accesses_of i.now) ≡ None }
+        requires room { self.old.steps < 2 ^ 64 - 1 }
+        ensures gprs { self.new.gprs ≡ gprs_left i.now o.now self.old.gprs }
+        ensures byte { (w : Swap) → byte_of self.new.pages w ≡ byte_left i.now o.now (byte_of self.old.pages w) }
+        ensures flags { self.new.flags ≡ o.now.flags }
+        ensures rip { self.new.rip ≡ o.now.rip }
+        ensures steps { self.new.steps ≡ steps_after o.now.acted self.old.steps }
+        ensures pages { KeepsTable self.old.pages self.new.pages }
+        ensures unwritten { destination_number i.now o.now ≡ None → self.new.pages ≡ self.old.pages }
+    {
+        move_stack(&mut self.gprs, o.stack);
+        put_register(&mut self.gprs, i.third, i.third_size, o.third);
+        let number = number_for(destination_use(i.op), o.destination);
+        put(
+            &mut self.gprs,
+            &mut self.pages,
+            i.destination,
+            i.size,
+            number,
+        );
+        self.flags = o.flags;
+        self.rip = o.rip;
+        if o.acted == Acted::Done {
+            self.steps += 1;
+        }
     }
 }

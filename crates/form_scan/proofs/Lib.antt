@@ -5,3 +5,4 @@ pub mod Rest
 pub mod Reached
 pub mod Heads
 pub mod Whole
+pub mod Staying

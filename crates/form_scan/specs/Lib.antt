@@ -2,3 +2,4 @@ pub mod Front
 pub mod Payload
 pub mod Shaped
 pub mod Reading
+pub mod Scanning

@@ -2,6 +2,7 @@
 ghost use Rattle.std.specs.Prelude.{◌≡◌, ◌≤◌, ◌↔◌, ◌++◌, ℕ, List, [], length};
 ghost use Rattle.form_scan.specs.Reading.{Gives, fields_at};
 ghost use Rattle.form_scan.specs.Shaped.{Shaped, IsWhole, IsCut, within_limit};
+ghost use Rattle.form_scan.specs.Scanning.{scan_of, scanned};
 ghost use Rattle.row_table.specs.declared.kinds.Fields.{Fields as AllFields};
 
 use crate::head::{read_head, read_lead};
@@ -26,6 +27,7 @@ fn scan_within(bytes: &[u8]) -> Scan
     requires { length bytes.now ≤ 15 }
     ensures whole { (f : AllFields) (n : ℕ) → (result ≡ Scan.Whole f n) ↔ IsWhole bytes.now f n }
     ensures short { (result ≡ Scan.Short) ↔ IsCut bytes.now }
+    ensures value { result ≡ scan_of (length bytes.now) (fields_at bytes.now) }
 {
     match read_fields(bytes) {
         Ok((fields, rest)) => Scan::Whole(fields, (bytes.len() - rest.len()) as u8),
@@ -57,6 +59,10 @@ pub fn scan(bytes: &[u8]) -> Scan
     // No instruction's bytes begin another's.
     ensures alone { (a b : List ℕ) (f g : AllFields)
         → Shaped a f → Shaped (a ++ b) g → (b ≡ []) × (f ≡ g) }
+    ensures value { result ≡ scanned bytes.now }
+
+    // More bytes change nothing, unless all of them are the first of an instruction.
+    ensures stays { (result ≡ Scan.Short → ⊥) → (more : List ℕ) → scanned (bytes.now ++ more) ≡ result }
 {
     scan_within(first_bytes(bytes))
 }

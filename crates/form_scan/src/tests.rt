@@ -90,7 +90,7 @@ fn known_instructions_are_whole(rt: HostRuntime) {
     let none = plain(0);
     let mut longest = [0x66; 15];
     longest[14] = 0x90;
-    let rows: [(&[u8], Seen); 20] = [
+    let rows: [(&[u8], Seen); 25] = [
         (&[0x31, 0xff], plain(2)),
         (&[0xf3, 0xc3], repeated(0xf3, 2)),
         // Of F2 and F3, and of 64 and 65, the last counts.
@@ -117,6 +117,13 @@ fn known_instructions_are_whole(rt: HostRuntime) {
         // An address of 8 bytes, and with 67 of 4.
         (&[0xa1, 0, 0, 1, 0, 0, 0, 0, 0], immediate(0x1_0000, 9)),
         (&[0x67, 0xa1, 0, 0, 1, 0, 0], immediate(0x1_0000, 6)),
+        // TEST, of F6 and F7 the only one with an immediate; NEG.
+        (&[0xf6, 0xc0, 0x05], immediate(5, 3)),
+        (&[0x66, 0xf7, 0xc0, 0x34, 0x12], immediate(0x1234, 5)),
+        (&[0xf7, 0xd8], plain(2)),
+        // The map of 0F38.
+        (&[0x0f, 0x38, 0xf0, 0x45, 0xf8], displaced(-8, 5)),
+        (&[0x0f, 0x38, 0xf6, 0xc1], plain(4)),
         (&longest, plain(15)),
     ];
     for (bytes, want) in rows {
@@ -126,11 +133,13 @@ fn known_instructions_are_whole(rt: HostRuntime) {
 
 #[test]
 fn cut_and_unknown_bytes_are_told_apart(rt: HostRuntime) {
-    let cut: [&[u8]; 7] = [
+    let cut: [&[u8]; 9] = [
         &[],
         &[0x66, 0x66, 0x66],
         &[0x66; 16],
         &[0x0f],
+        &[0x0f, 0x38],
+        &[0xf6, 0xc0],
         &[0x8b, 0x04],
         &[0x8b, 0x04, 0x25, 0, 0x10, 0],
         &[0x48, 0xb8, 1, 2, 3, 4, 5, 6, 7],
@@ -138,10 +147,12 @@ fn cut_and_unknown_bytes_are_told_apart(rt: HostRuntime) {
     for bytes in cut {
         assert!(rt; matches!(scan(bytes), Scan::Short), "at {bytes:?}");
     }
-    let unknown: [&[u8]; 4] = [
+    let unknown: [&[u8]; 6] = [
         &[0x06],
         &[0x0f, 0x0b],
         &[0x0f, 0x58, 0xc1],
+        &[0x0f, 0x38, 0xdc],
+        &[0x0f, 0x3a],
         &[0x66, 0x48, 0x27],
     ];
     for bytes in unknown {

@@ -1,14 +1,14 @@
 -- Lemmas on an access that goes along pages.
-use Rattle.std.proofs.Common.{◌≡◌, ℕ, ◌+◌, ◌-◌, ◌/◌, ◌%◌, ◌<◌, ◌≤◌, Option, Some, None, zero, suc, refl, sym, ap, ◌∙◌, arith, zero-add, add-zero}
+use Rattle.std.proofs.Common.{◌≡◌, ℕ, ◌+◌, ◌-◌, ◌/◌, ◌%◌, ◌<◌, ◌≤◌, Bool, true, false, if◌then◌else◌, Option, Some, None, zero, suc, refl, sym, ap, ◌∙◌, arith, zero-add, add-zero}
 use Rattle.machine_state.specs.declared.kinds.Kind.{Kind}
 use Rattle.machine_state.specs.declared.kinds.Miss.{Miss}
 use Rattle.machine_state.specs.Memory.{first_miss, miss_at, or_else}
-use Rattle.machine_state.proofs.MemoryLemmas.{or_else-assoc, or_else_none, first_miss_part, first_miss_within, first_miss_at_once, first_miss_skip, first_miss-zero}
+use Rattle.machine_state.proofs.MemoryLemmas.{or_else-assoc, or_else_right, or_else_none, first_miss_part, first_miss_within, first_miss_at_once, first_miss_skip, first_miss-zero, first_miss-append}
 use Rattle.machine_state.specs.declared.kinds.Miss.TheVariants.{Away}
 use Rattle.std.specs.Option.{option_map}
 use Rattle.guest_pages.specs.Pages.{PagesValue, table_of}
 use Rattle.guest_pages.specs.Slots.{IsWalked}
-use Rattle.guest_pages.specs.Table.{Table, perms_in, away_at, first_away, blocked}
+use Rattle.guest_pages.specs.Table.{Mapped, Table, perms_in, away_at, first_away, blocked}
 
 pub first_away-zero : (table : Table) (addr : ℕ) → first_away table addr 0 ≡ None
 unfolding first_away
@@ -46,11 +46,7 @@ away_twice (Some miss) = refl
 pub first_away_within : (table : Table) (addr len : ℕ) → 0 < len → addr % 4096 + len ≤ 4096 → first_away table addr len ≡ away_at (table (addr / 4096))
 unfolding first_away
 first_away_within table addr zero some within = absurd (omega arith)
-first_away_within table addr (suc zero) some within = last (away_at (table (addr / 4096)))
-  where
-    last : (a : Option Miss) → or_else a None ≡ a
-    last None = refl
-    last (Some miss) = refl
+first_away_within table addr (suc zero) some within = or_else_right (away_at (table (addr / 4096)))
 first_away_within table addr (suc (suc len)) some within =
     let same : (addr + 1) / 4096 ≡ addr / 4096 = omega arith in
     let rest : first_away table (addr + 1) (suc len) ≡ away_at (table (addr / 4096)) =
@@ -68,19 +64,58 @@ pub blocked_at_once : (table : Table) (kind : Kind) (addr len : ℕ) (miss : Mis
     → blocked table kind addr len ≡ Some miss
 blocked_at_once table kind addr len miss some is = rw (first_miss_at_once (perms_in table) kind addr len miss some is) refl
 
+-- what keeps an access within one page from being made keeps its first byte from being had: all bytes of a page share
+-- their permissions, and are in a frame or not together
+pub blocked_first : (table : Table) (kind : Kind) (addr len : ℕ) → 0 < len → addr % 4096 + len ≤ 4096
+    → blocked table kind addr 1 ≡ blocked table kind addr len
+blocked_first table kind addr len some within = by_first (miss_at (perms_in table) kind addr) refl
+  where
+    by_first : (first : Option Miss) → miss_at (perms_in table) kind addr ≡ first → blocked table kind addr 1 ≡ blocked table kind addr len
+    by_first None is =
+        blocked_within table kind addr 1 (omega arith) (omega arith) is ∙ sym (blocked_within table kind addr len some within is)
+    by_first (Some miss) is =
+        blocked_at_once table kind addr 1 miss (omega arith) is ∙ sym (blocked_at_once table kind addr len miss some is)
+
+-- an access in two parts that can be made can be made
+pub blocked_both : (table : Table) (kind : Kind) (addr k n : ℕ) → blocked table kind addr k ≡ None → blocked table kind (addr + k) n ≡ None
+    → blocked table kind addr (k + n) ≡ None
+blocked_both table kind addr k n before next =
+    let first = or_else_none (first_miss (perms_in table) kind addr k) (first_away table addr k) before in
+    let last = or_else_none (first_miss (perms_in table) kind (addr + k) n) (first_away table (addr + k) n) next in
+    let allowed : first_miss (perms_in table) kind addr (k + n) ≡ None = first_miss-append (perms_in table) kind addr k n ∙ rw (first.0, last.0) refl in
+    rw allowed (first_away-append table addr k n ∙ rw (first.1, last.1) refl)
+
+-- what keeps a mapped page's bytes from being had is that it is away
+pub away_at-away : (mapped : Option Mapped) (miss : Miss) → away_at mapped ≡ Some miss → (slot : ℕ) × (miss ≡ Away slot)
+away_at-away None miss e = cc
+away_at-away (Some mapped) miss e = away mapped.resident e
+  where
+    away : (resident : Bool) → (if resident then None else Some (Away mapped.slot)) ≡ Some miss → (slot : ℕ) × (miss ≡ Away slot)
+    away true e = cc
+    away false e = (mapped.slot, cc)
+
+-- and so of an access's pages
+pub first_away-away : (table : Table) (addr len : ℕ) (miss : Miss) → first_away table addr len ≡ Some miss → (slot : ℕ) × (miss ≡ Away slot)
+unfolding first_away
+first_away-away table addr zero miss e = cc
+first_away-away table addr (suc len) miss e =
+    either (away_at (table (addr / 4096))) (first_away table (addr + 1) len) (away_at-away (table (addr / 4096)) miss)
+    (first_away-away table (addr + 1) len miss) e
+  where
+    either : (first later : Option Miss) → (first ≡ Some miss → (slot : ℕ) × (miss ≡ Away slot))
+        → (later ≡ Some miss → (slot : ℕ) × (miss ≡ Away slot)) → or_else first later ≡ Some miss → (slot : ℕ) × (miss ≡ Away slot)
+    either None later one two e = two e
+    either (Some why) later one two e = one e
+
 none_away : (table : Table) (addr len : ℕ) → ((page : ℕ) → away_at (table page) ≡ None) → first_away table addr len ≡ None
 unfolding first_away
 none_away table addr zero all = refl
 none_away table addr (suc len) all = rw (all (addr / 4096)) (none_away table (addr + 1) len all)
 
-or_none : (a : Option Miss) → or_else a None ≡ a
-or_none None = refl
-or_none (Some miss) = refl
-
 -- where every mapped page is in a frame, nothing but a miss keeps an access from being made
 pub blocked_resident : (table : Table) (kind : Kind) (addr len : ℕ) → ((page : ℕ) → away_at (table page) ≡ None)
     → blocked table kind addr len ≡ first_miss (perms_in table) kind addr len
-blocked_resident table kind addr len all = rw (none_away table addr len all) (or_none (first_miss (perms_in table) kind addr len))
+blocked_resident table kind addr len all = rw (none_away table addr len all) (or_else_right (first_miss (perms_in table) kind addr len))
 
 -- of an access that can be made, the first byte is allowed and its page is in a frame
 pub ready_here : (table : Table) (kind : Kind) (addr len : ℕ) → 0 < len → blocked table kind addr len ≡ None
@@ -134,7 +169,7 @@ walked_out pages kind addr len at left away walks none = record {
       walks.away_is
       ∙ ap (λ (m : ℕ). or_else (option_map Away away) (first_away (table_of pages) at m)) none
       ∙ ap (or_else (option_map Away away)) (first_away-zero (table_of pages) at)
-      ∙ or_none (option_map Away away);
+      ∙ or_else_right (option_map Away away);
 }
 
 -- the walk meets a byte that isn't allowed

@@ -12,6 +12,12 @@ pub record KeepsSize (old new : PagesValue) : Type 0 where
   pub frames : new.frames ≡ old.frames
   pub pages : length new.slots ≡ length old.slots
 
+-- the same pages are mapped, in the same slots, with the same permissions, and the same of them are in frames
+pub record KeepsTable (old new : PagesValue) : Type 0 where
+  pub size : KeepsSize old new
+  pub table : table_of new ≡ table_of old
+  pub count : mapped_count new ≡ mapped_count old
+
 -- every mapped page is in a frame
 abbrev pub AllResident : PagesValue → Type 0
 AllResident pages = (page : ℕ) → away_at (table_of pages page) ≡ None

@@ -167,6 +167,7 @@ impl Pages {
         requires one_page { addr % 4096 + len ≤ 4096 }
         ensures answer { MatchResult result (λ _. blocked (table_of self.now) kind addr len ≡ None)
             (λ miss. blocked (table_of self.now) kind addr len ≡ Some miss) }
+        ensures low { OnOk result (addr + len ≤ 0x800000000000) }
         ensures bytes { IfOk result (λ shown. IsShown self.now addr len shown.now) }
     {
         let k = self.locate(addr, kind)?;

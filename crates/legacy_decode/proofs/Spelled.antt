@@ -1,17 +1,14 @@
 -- The one row that fields match, and whether they spell it.
-use Rattle.std.proofs.Common.{◌≡◌, ◌↔◌, ℕ, ℤ, Bool, true, false, ◌&&◌, None, slice_get, refl, sym, ap, ◌∙◌, subst}
+use Rattle.std.proofs.Common.{◌≡◌, ◌↔◌, ℕ, ℤ, Bool, true, false, cond, ◌&&◌, None, slice_get, refl, sym, ap, ◌∙◌, subst}
 use Rattle.std.proofs.Common.{Some as some}
 use Rattle.std.proofs.lemmas.Bool.{and_parts}
 use Rattle.row_table.specs.declared.kinds.Row.{Row}
 use Rattle.row_table.specs.declared.kinds.Fields.{Fields}
 use Rattle.row_table.specs.declared.kinds.Decoded.{Decoded}
 use Rattle.row_table.specs.Rows.{rows}
-use Rattle.row_table.specs.Matching.{Matches}
+use Rattle.row_table.specs.Matching.{Matches, matched}
 use Rattle.legacy_decode.specs.Lock.{lock_fits}
-use Rattle.legacy_decode.specs.Spelling.{Spells, IsDecoded, registers_fit, displacement}
-
-abbrev pub allowed : Row → Fields → Bool
-allowed r f = lock_fits r f && registers_fit f
+use Rattle.legacy_decode.specs.Spelling.{Spells, IsDecoded, registers_fit, displacement, allowed, spelled_row, spelled_at, spelled}
 
 -- ---- no row is spelled
 pub none-matches : (f : Fields) → ((i : ℕ) → Matches rows f i → ⊥) → (i : ℕ) → Spells f i → ⊥
@@ -60,3 +57,22 @@ some-decoded f i z disp spells only d = (
       subst (IsDecoded f) same (record { fields = refl; row = spells; disp = disp }),
   λ h. decoded_is f i z d h.fields (only d.row h.row.matches) (h.disp ∙ sym disp),
 )
+
+-- ---- the computed answer
+pub spelled-none : (f : Fields) → None ≡ matched f → None ≡ spelled f
+unfolding spelled
+spelled-none f e = ap (spelled_at f) e
+
+by-row : (f : Fields) (i : ℕ) (r : Row) → slice_get rows i ≡ some r → some i ≡ matched f → spelled f ≡ spelled_row f i (some r)
+unfolding spelled
+by-row f i r there e = sym (ap (spelled_at f) e) ∙ ap (spelled_row f i) there
+
+pub spelled-refused : (f : Fields) (i : ℕ) (r : Row) → slice_get rows i ≡ some r → some i ≡ matched f → allowed r f ≡ false → None ≡ spelled f
+spelled-refused f i r there e refused =
+    sym (by-row f i r there e ∙ ap (λ b. cond b (some (instruction f i (displacement f))) None) refused)
+
+pub spelled-some : (f : Fields) (i : ℕ) (r : Row) (z : ℤ) → z ≡ displacement f → slice_get rows i ≡ some r → some i ≡ matched f
+    → allowed r f ≡ true → some (instruction f i z) ≡ spelled f
+spelled-some f i r z disp there e holds =
+    ap (λ d. some (instruction f i d)) disp
+    ∙ sym (by-row f i r there e ∙ ap (λ b. cond b (some (instruction f i (displacement f))) None) holds)

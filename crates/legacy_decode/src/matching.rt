@@ -3,7 +3,7 @@ ghost use Rattle.std.specs.Prelude.{◌≡◌, ◌↔◌, ◌<◌, ℕ, ◌&&◌
 ghost use Rattle.row_table.specs.declared.kinds.Decoded.{Decoded as AnyDecoded};
 ghost use Rattle.row_table.specs.Rows.{rows};
 ghost use Rattle.legacy_decode.specs.Lock.{lock_fits};
-ghost use Rattle.legacy_decode.specs.Spelling.{Spells, IsDecoded, registers_fit};
+ghost use Rattle.legacy_decode.specs.Spelling.{Spells, IsDecoded, registers_fit, spelled};
 
 use crate::locking::does_lock_fit;
 use row_table::{Class, Decoded, Fields, Row, find, row};
@@ -28,6 +28,7 @@ pub fn match_legacy(fields: &Fields) -> Option<Decoded>
     ensures some { (d : AnyDecoded) → (result ≡ Some d) ↔ IsDecoded fields.now d }
     ensures within { IfSome result (λ d. d.row < length rows) }
     ensures none { IfNone result ((i : ℕ) → Spells fields.now i → ⊥) }
+    ensures value { result ≡ spelled fields.now }
 {
     let index = find(fields)?;
     if !is_allowed(&row(index), fields) {

@@ -1,6 +1,6 @@
 //! The rules beyond the table's. What is expected is the SDM's.
 use crate::*;
-use row_table::{Class, CoreOp, Fields, GprOp, Op, row};
+use row_table::{BitOp, Class, CoreOp, Fields, GprOp, Op, row};
 
 /// The fields of a legacy instruction of the one-byte map with this opcode and ModRM byte, without prefixes.
 fn plain(opcode: u8, modrm: Option<u8>) -> Fields {
@@ -41,6 +41,14 @@ fn locked(opcode: u8, modrm: Option<u8>) -> Fields {
     }
 }
 
+/// The same in the map of 0F.
+fn locked_two_byte(opcode: u8, modrm: Option<u8>) -> Fields {
+    Fields {
+        map: 1,
+        ..locked(opcode, modrm)
+    }
+}
+
 /// The name of the operation, of those that the test meets, and the displacement.
 fn matched(fields: &Fields) -> Option<(&'static str, i64)> {
     let decoded = match fields.class {
@@ -51,7 +59,11 @@ fn matched(fields: &Fields) -> Option<(&'static str, i64)> {
         Op::Core(CoreOp::Mov) => "mov",
         Op::Core(CoreOp::Ret) => "ret",
         Op::Core(CoreOp::Xchg) => "xchg",
+        Op::Core(CoreOp::Cmpxchg8b) => "cmpxchg8b",
+        Op::Gpr(GprOp::Add) => "add",
+        Op::Gpr(GprOp::Neg) => "neg",
         Op::Gpr(GprOp::Xor) => "xor",
+        Op::Bit(BitOp::Bts) => "bts",
         _ => "another",
     };
     Some((name, decoded.disp))
@@ -88,6 +100,28 @@ fn rows_are_spelled_by_the_rules_on_prefixes_and_registers(rt: HostRuntime) {
         ("f0 91, of registers", locked(0x91, None), None),
         ("f0 89 00, mov", locked(0x89, Some(0x00)), None),
         ("f0 c3", locked(0xc3, None), None),
+        ("f0 01 08", locked(0x01, Some(0x08)), Some(("add", 0))),
+        ("f0 f6 18", locked(0xf6, Some(0x18)), Some(("neg", 0))),
+        ("f0 03 08, from memory", locked(0x03, Some(0x08)), None),
+        ("f0 04 05, to al", locked(0x04, None), None),
+        ("f0 39 08, cmp", locked(0x39, Some(0x08)), None),
+        ("f0 f6 20, mul", locked(0xf6, Some(0x20)), None),
+        (
+            "f0 0f ab 08",
+            locked_two_byte(0xab, Some(0x08)),
+            Some(("bts", 0)),
+        ),
+        (
+            "f0 0f c7 08",
+            locked_two_byte(0xc7, Some(0x08)),
+            Some(("cmpxchg8b", 0)),
+        ),
+        (
+            "f0 0f ab c8, to a register",
+            locked_two_byte(0xab, Some(0xc8)),
+            None,
+        ),
+        ("f0 0f a3 08, bt", locked_two_byte(0xa3, Some(0x08)), None),
     ] {
         assert_eq!(rt; matched(&fields), want, "at {bytes}");
     }

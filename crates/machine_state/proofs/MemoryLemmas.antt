@@ -12,6 +12,11 @@ pub or_else-assoc : (a b c : Option Miss) → or_else a (or_else b c) ≡ or_els
 or_else-assoc None b c = refl
 or_else-assoc (Some miss) b c = refl
 
+-- a miss or none is that miss
+pub or_else_right : (first : Option Miss) → or_else first None ≡ first
+or_else_right None = refl
+or_else_right (Some miss) = refl
+
 -- where there is no first of two misses, there is neither
 pub or_else_none : (a b : Option Miss) → or_else a b ≡ None → (a ≡ None) × (b ≡ None)
 or_else_none None b h = (refl, h)

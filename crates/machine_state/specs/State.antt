@@ -1,6 +1,6 @@
 -- The machine state: what a program sees of the processor, and its memory.
-use Rattle.std.specs.Prelude.{ℕ, ◌+◌, Bool, false, if◌then◌else◌, List, [], ◌∷◌, ◌++◌, Option, None, replicate}
-use Rattle.machine_state.specs.declared.kinds.Flags.{Flags}
+use Rattle.std.specs.Prelude.{ℕ, Bool, false, List, [], ◌∷◌, ◌++◌, Option, None, replicate}
+use Rattle.gpr_flags.specs.declared.kinds.Flags.{Flags}
 use Rattle.machine_state.specs.Memory.{Memory}
 
 -- what the processor remembers of the last XRSTOR, for XSAVEOPT: the area's address, if there is one, whether that area
@@ -47,15 +47,3 @@ initial_extended = record {
   x87 = initial_x87;
   restored = no_restored;
 }
-
-abbrev pub no_flags : Flags
-no_flags = record { cf = false; pf = false; af = false; zf = false; sf = false; df = false; ovf = false }
-
-abbrev pub flag_bit : Bool → ℕ → ℕ
-flag_bit set weight = if set then weight else 0
-
--- RFLAGS as a number: bits 1 and 9 are always set (SDM volume 1, 3.4.3)
-abbrev pub flags_word : Flags → ℕ
-flags_word f =
-    514 + flag_bit f.cf 1 + flag_bit f.pf 4 + flag_bit f.af 16 + flag_bit f.zf 64 + flag_bit f.sf 128 + flag_bit f.df 1024
-    + flag_bit f.ovf 2048

@@ -21,39 +21,6 @@ pub enum Miss {
     Away(u32),
 }
 
-/// A fault of an instruction, before it becomes a signal (SDM volume 3, 6.15).
-#[derive(Clone, Copy, Debug, PartialEq, Eq)]
-pub enum Fault {
-    /// #DE
-    Divide,
-    /// #BP, of INT3
-    Breakpoint,
-    /// #UD
-    Undefined,
-    /// #GP
-    General,
-    /// #PF at the byte `addr`; `mapped` says whether a page is mapped there.
-    Page {
-        addr: u64,
-        write: bool,
-        fetch: bool,
-        mapped: bool,
-    },
-}
-
-/// The seven flags of RFLAGS that change (SDM volume 1, 3.4.3).
-#[derive(Clone, Copy, Debug, PartialEq, Eq)]
-pub struct Flags {
-    pub cf: bool,
-    pub pf: bool,
-    pub af: bool,
-    pub zf: bool,
-    pub sf: bool,
-    pub df: bool,
-    /// OF
-    pub ovf: bool,
-}
-
 /// A call on the outside, as an end names it when that call failed. The number in `Load` and `Store` is the index of
 /// the command line's word that holds the path.
 #[derive(Clone, Copy, Debug, PartialEq, Eq)]

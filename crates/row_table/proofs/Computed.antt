@@ -1,13 +1,13 @@
 -- What the checker computes over the whole table. All else follows from these by lemmas.
 use Rattle.std.proofs.Common.{◌≡◌, true, refl, sym, subst, length}
-use Rattle.row_table.specs.Families.{listing, one_byte, two_byte}
+use Rattle.row_table.specs.Families.{listing, one_byte, two_byte, three_byte}
 use Rattle.row_table.specs.Rows.{rows, table, starts, sorted, insert_row}
 use Rattle.row_table.proofs.Index.{placed, rises, at_most}
 use Rattle.row_table.proofs.Pairs.{ordered, passes_near, near, together}
 
 -- the rows of the definition are those of the code
 pub rows-table : rows ≡ table
-unfolding rows listing one_byte two_byte sorted insert_row table
+unfolding rows listing one_byte two_byte three_byte sorted insert_row table
 rows-table = refl
 
 table-placed : placed starts 0 table ≡ true

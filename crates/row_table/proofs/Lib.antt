@@ -5,3 +5,4 @@ pub mod Places
 pub mod Unique
 pub mod Shaping
 pub mod Search
+pub mod Computing

@@ -14,7 +14,7 @@ use Rattle.row_table.specs.declared.kinds.Form.{Form}
 use Rattle.row_table.specs.declared.kinds.Form.TheVariants.{Either, Memory, Register, Exactly}
 use Rattle.row_table.specs.Rows.{row_place, class_number}
 use Rattle.row_table.specs.Shapes.{form_fits, form_of, shape_of}
-use Rattle.row_table.specs.Matching.{digit_fits, w_fits, length_fits, fits, Fits, FitsMarked, FitsUnmarked, IsAt, mandatory_in, prefix_of_pp}
+use Rattle.row_table.specs.Matching.{digit_fits, w_fits, length_fits, fits, Fits, FitsMarked, FitsUnmarked, IsAt, mandatory_in, prefix_of_pp, prefix_number}
 use Rattle.row_table.proofs.Index.{some_same}
 
 -- the places of the rows rise, the first at least `from`
@@ -73,13 +73,6 @@ near-at p from (x ∷ rs) (suc i) (suc j) r q h o lt a b same =
     near-at p (row_place x) rs i j r q w.1 u.1 (omega arith) a b same
 
 -- ---- what two rows that fit the same fields have in common
-abbrev pub prefix_number : Prefix → ℕ
-prefix_number Unmarked = 0
-prefix_number Np = 1
-prefix_number P66 = 2
-prefix_number PF3 = 3
-prefix_number PF2 = 4
-
 abbrev pub digits_meet : Option ℕ → Option ℕ → Bool
 digits_meet None b = true
 digits_meet (Some a) None = true
@@ -212,13 +205,13 @@ excludes_66_or_needs_it Np = true
 excludes_66_or_needs_it P66 = true
 excludes_66_or_needs_it _ = false
 
-abbrev pub is_unmarked : Prefix → Bool
-is_unmarked Unmarked = true
-is_unmarked _ = false
+abbrev pub has_no_mark : Prefix → Bool
+has_no_mark Unmarked = true
+has_no_mark _ = false
 
 -- the first is a legacy row marked NP or 66, the second has no mark, and a ModRM byte may fit both
 abbrev pub shares : Row → Row → Bool
-shares r q = (class_number r.class == 0) && (excludes_66_or_needs_it r.prefix && (is_unmarked q.prefix && modrm_meets r q))
+shares r q = (class_number r.class == 0) && (excludes_66_or_needs_it r.prefix && (has_no_mark q.prefix && modrm_meets r q))
 
 abbrev pub shares_none : Row → Row → Bool
 shares_none r q = not (shares r q) && not (shares q r)
@@ -229,7 +222,7 @@ marked_here p (inr e) = ap excludes_66_or_needs_it e
 
 pub shares-from : (r q : Row) (m : Option ℕ) → r.class ≡ Legacy → (r.prefix ≡ Np) ⊎ (r.prefix ≡ P66) → q.prefix ≡ Unmarked → digit_fits r.digit m ≡ true → form_fits (form_of r.operands) m ≡ true → digit_fits q.digit m ≡ true → form_fits (form_of q.operands) m ≡ true → shares r q ≡ true
 shares-from r q m l p u a b c d =
-    and_true _ _ (eq-eqb _ _ (ap class_number l)) (and_true _ _ (marked_here r.prefix p) (and_true _ _ (ap is_unmarked u) (modrm_both r q m a b c d)))
+    and_true _ _ (eq-eqb _ _ (ap class_number l)) (and_true _ _ (marked_here r.prefix p) (and_true _ _ (ap has_no_mark u) (modrm_both r q m a b c d)))
 
 pub shares_none-first : (r q : Row) → shares_none r q ≡ true → shares r q ≡ true → ⊥
 shares_none-first r q h e = let w = and_parts (not (shares r q)) (not (shares q r)) h in contradicts _ w.0 e

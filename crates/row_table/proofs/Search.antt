@@ -1,5 +1,5 @@
 -- What the loop of find knows, and how one more row keeps it.
-use Rattle.std.proofs.Common.{◌≡◌, ℕ, ◌+◌, ◌<◌, ◌≤◌, sym, ap, subst, ◌∙◌, Option, List, slice_get, Some, None, IfSome, arith, inl, inr}
+use Rattle.std.proofs.Common.{◌≡◌, ℕ, ◌+◌, ◌<◌, ◌≤◌, sym, ap, subst, ◌∙◌, Option, List, slice_get, Some, None, IfSome, IfNone, arith, inl, inr}
 use Rattle.std.proofs.lemmas.Bool.{cases_lt}
 use Rattle.row_table.specs.declared.kinds.Row.{Row}
 use Rattle.row_table.specs.declared.kinds.Fields.{Fields}
@@ -70,6 +70,10 @@ found-none rs f start end i all le h k (without_mark r g m none) = let w = all k
 pub found : (rs : List Row) (f : Fields) (start end i : ℕ) (u : Option ℕ) → Holds rs f start end → end ≤ i → Kept rs f start i u → IfSome u (Matches rs f)
 found rs f start end i None all le h = tt
 found rs f start end i (Some k) all le h = found-unmarked rs f start end i k all le h
+
+pub found-absent : (rs : List Row) (f : Fields) (start end i : ℕ) (u : Option ℕ) → Holds rs f start end → end ≤ i → Kept rs f start i u → IfNone u ((k : ℕ) → Matches rs f k → ⊥)
+found-absent rs f start end i None all le h = found-none rs f start end i all le h
+found-absent rs f start end i (Some k) all le h = tt
 
 pub found-only : (rs : List Row) (f : Fields) (u : Option ℕ) → ((i j : ℕ) → Matches rs f i → Matches rs f j → i ≡ j) → IfSome u (Matches rs f) → IfSome u (λ i. (j : ℕ) → Matches rs f j → j ≡ i)
 found-only rs f None one h = tt

@@ -1,28 +1,38 @@
 -- The instructions, in the layout and order of the SDM's opcode maps (Intel SDM volume 2, appendix A.3):
 -- a comment gives what a line of the listing says, and the term below it the rows.
 use Rattle.std.specs.Prelude.{List, [], ◌∷◌, ◌++◌, flat_map}
-use Rattle.row_table.specs.declared.kinds.Operands.TheVariants.{Implied, OpcodeReg, RaxOpcodeReg, OpcodeRegIb, OpcodeRegIv, Ib, Iw, Iz, Jb, Jz, AlOb, RaxOv, ObAl, OvRax, Eb, Ev, EbGb, EvGv, GbEb, GvEv, GvEb, GvEw, GvEd, EbIb, EvIz, GvM, R}
+use Rattle.row_table.specs.declared.kinds.Operands.TheVariants.{Implied, OpcodeReg, RaxOpcodeReg, OpcodeRegIb, OpcodeRegIv, Ib, Iw, Iz, Jb, Jz, AlIb, RaxIz, AlOb, RaxOv, ObAl, OvRax, Eb, Ev, EbGb, EvGv, GbEb, GvEv, GvEb, GvEw, GvEd, EbIb, EvIb, EvIz, GvEvIb, GvEvIz, EvGvIb, EvGvCl, GvM, MvGv, M, R}
 use Rattle.row_table.specs.declared.kinds.Row.{Row}
-use Rattle.row_table.specs.declared.operations.Op.TheVariants.{Core, Gpr}
-use Rattle.row_table.specs.declared.operations.CoreOp.TheVariants.{Mov, Movsxd, Movzx, Movsx, Lea, Xchg, Push, Pop, Pushf, Popf, Leave, Call, Ret, Jmp, Jcc, Loopne, Loope, Loop, Jrcxz, Cmovcc, Setcc, Cbw, Cwd, Bswap, Cmc, Clc, Stc, Cld, Std, Sahf, Lahf, Int3, Hlt, Syscall, Rdtsc, Nop}
-use Rattle.row_table.specs.declared.operations.GprOp.TheVariants.{Xor}
-use Rattle.row_table.specs.Lines.{sized, byte, always, scalar, digit, np, opcodes, registers, conditions, by_w, arithmetic, with_immediate, in_map}
+use Rattle.row_table.specs.declared.operations.Op.TheVariants.{Core, Gpr, Bit, String}
+use Rattle.row_table.specs.declared.operations.CoreOp.TheVariants.{Mov, Movsxd, Movzx, Movsx, Movbe, Movnti, Lea, Xchg, Push, Pop, Pushf, Popf, Leave, Call, Ret, Jmp, Jcc, Loopne, Loope, Loop, Jrcxz, Cmovcc, Setcc, Cbw, Cwd, Bswap, Cmc, Clc, Stc, Cld, Std, Sahf, Lahf, Int3, Hlt, Syscall, Rdtsc, Nop, Xadd, Cmpxchg, Cmpxchg8b, Clflush}
+use Rattle.row_table.specs.declared.operations.GprOp.TheVariants.{Add, Or, Adc, Sbb, And, Sub, Xor, Cmp, Test, Not, Neg, Inc, Dec, Mul, Imul, Div, Idiv, Adcx, Adox}
+use Rattle.row_table.specs.declared.operations.BitOp.TheVariants.{Rol, Ror, Rcl, Rcr, Shl, Shr, Sar, Shld, Shrd, Bt, Bts, Btr, Btc, Popcnt, Bsf, Tzcnt, Bsr, Lzcnt}
+use Rattle.row_table.specs.declared.operations.StringOp.TheVariants.{Movs, Cmps, Stos, Lods, Scas}
+use Rattle.row_table.specs.Lines.{sized, byte, always, scalar, digit, without_w, with_w, np, p66, pf3, aligned, level_3, opcodes, registers, conditions, by_w, arithmetic, with_immediate, shifts, one_operand, in_map}
 
 -- the one-byte map
 unfoldable pub one_byte : List Row
 one_byte =
-    -- 00+8i to 05+8i, i = 6: XOR Eb,Gb; Ev,Gv; Gb,Eb; Gv,Ev; AL,Ib; rAX,Iz
-    arithmetic 6 (Gpr Xor)
+    -- 00+8i to 05+8i, i = 0 to 7: ADD, OR, ADC, SBB, AND, SUB, XOR, CMP
+    -- Eb,Gb; Ev,Gv; Gb,Eb; Gv,Ev; AL,Ib; rAX,Iz
+    arithmetic 0 (Gpr Add) ++ arithmetic 1 (Gpr Or) ++ arithmetic 2 (Gpr Adc) ++ arithmetic 3 (Gpr Sbb)
+    ++ arithmetic 4 (Gpr And) ++ arithmetic 5 (Gpr Sub) ++ arithmetic 6 (Gpr Xor) ++ arithmetic 7 (Gpr Cmp)
     -- 80, 81, 83 /i: the same with Eb,Ib; Ev,Iz; Ev,Ib
-    ++ with_immediate 6 (Gpr Xor)
+    ++ with_immediate 0 (Gpr Add) ++ with_immediate 1 (Gpr Or) ++ with_immediate 2 (Gpr Adc)
+    ++ with_immediate 3 (Gpr Sbb) ++ with_immediate 4 (Gpr And) ++ with_immediate 5 (Gpr Sub)
+    ++ with_immediate 6 (Gpr Xor) ++ with_immediate 7 (Gpr Cmp)
     -- 50+r, 58+r, 68, 6A: PUSH and POP of a register; PUSH Iz; PUSH Ib
     ++ registers (sized 0x50 OpcodeReg (Core Push))
     ++ registers (sized 0x58 OpcodeReg (Core Pop))
     ++ sized 0x68 Iz (Core Push) ∷ sized 0x6A Ib (Core Push) ∷ []
     -- 63: MOVSXD Gv from 32 bits, or 16 where the operand size is 16
     ++ sized 0x63 GvEd (Core Movsxd) ∷ []
+    -- 69, 6B: IMUL Gv,Ev,Iz; Gv,Ev,Ib
+    ++ sized 0x69 GvEvIz (Gpr Imul) ∷ sized 0x6B GvEvIb (Gpr Imul) ∷ []
     -- 70+cc: Jcc by 1 byte
     ++ conditions (always 0x70 Jb (Core Jcc))
+    -- 84, 85: TEST Eb,Gb; Ev,Gv
+    ++ byte 0x84 EbGb (Gpr Test) ∷ sized 0x85 EvGv (Gpr Test) ∷ []
     -- 86, 87: XCHG
     ++ byte 0x86 EbGb (Core Xchg) ∷ sized 0x87 EvGv (Core Xchg) ∷ []
     -- 88, 89, 8A, 8B: MOV Eb,Gb; Ev,Gv; Gb,Eb; Gv,Ev
@@ -42,9 +52,22 @@ one_byte =
     -- A0 to A3: MOV between AL or rAX and an address of 8 bytes, or 4 with 67
     ++ byte 0xA0 AlOb (Core Mov) ∷ sized 0xA1 RaxOv (Core Mov) ∷ byte 0xA2 ObAl (Core Mov)
     ∷ sized 0xA3 OvRax (Core Mov) ∷ []
+    -- A4, A5, A6, A7: MOVS and CMPS, of bytes and of operand size
+    ++ byte 0xA4 Implied (String Movs) ∷ sized 0xA5 Implied (String Movs)
+    ∷ byte 0xA6 Implied (String Cmps) ∷ sized 0xA7 Implied (String Cmps) ∷ []
+    -- A8, A9: TEST AL,Ib; rAX,Iz
+    ++ byte 0xA8 AlIb (Gpr Test) ∷ sized 0xA9 RaxIz (Gpr Test) ∷ []
+    -- AA to AF: STOS, LODS and SCAS, of bytes and of operand size
+    ++ byte 0xAA Implied (String Stos) ∷ sized 0xAB Implied (String Stos)
+    ∷ byte 0xAC Implied (String Lods) ∷ sized 0xAD Implied (String Lods)
+    ∷ byte 0xAE Implied (String Scas) ∷ sized 0xAF Implied (String Scas) ∷ []
     -- B0+r, B8+r: MOV of a register and Ib or Iv
     ++ registers (byte 0xB0 OpcodeRegIb (Core Mov))
     ++ registers (sized 0xB8 OpcodeRegIv (Core Mov))
+    -- C0, C1, D0, D1, D2, D3: Eb,Ib; Ev,Ib; Eb,1; Ev,1; Eb,CL; Ev,CL
+    -- /0 to /5: ROL, ROR, RCL, RCR, SHL, SHR; /7: SAR
+    ++ shifts 0 (Bit Rol) ++ shifts 1 (Bit Ror) ++ shifts 2 (Bit Rcl) ++ shifts 3 (Bit Rcr)
+    ++ shifts 4 (Bit Shl) ++ shifts 5 (Bit Shr) ++ shifts 7 (Bit Sar)
     -- C2, C3, C9, CC, F4: RET with 2 bytes; RET; LEAVE; INT3; HLT
     ++ always 0xC2 Iw (Core Ret) ∷ always 0xC3 Implied (Core Ret) ∷ sized 0xC9 Implied (Core Leave)
     ∷ always 0xCC Implied (Core Int3) ∷ always 0xF4 Implied (Core Hlt) ∷ []
@@ -59,6 +82,13 @@ one_byte =
     ++ always 0xF5 Implied (Core Cmc) ∷ always 0xF8 Implied (Core Clc)
     ∷ always 0xF9 Implied (Core Stc) ∷ always 0xFC Implied (Core Cld)
     ∷ always 0xFD Implied (Core Std) ∷ []
+    -- F6 /0, F7 /0: TEST Eb,Ib; Ev,Iz
+    ++ digit 0 (byte 0xF6 EbIb (Gpr Test)) ∷ digit 0 (sized 0xF7 EvIz (Gpr Test)) ∷ []
+    -- F6, F7 /2 to /7: NOT, NEG, MUL, IMUL, DIV, IDIV Eb; Ev
+    ++ one_operand 0xF6 2 (Gpr Not) ++ one_operand 0xF6 3 (Gpr Neg) ++ one_operand 0xF6 4 (Gpr Mul)
+    ++ one_operand 0xF6 5 (Gpr Imul) ++ one_operand 0xF6 6 (Gpr Div) ++ one_operand 0xF6 7 (Gpr Idiv)
+    -- FE, FF /0, /1: INC and DEC Eb; Ev
+    ++ one_operand 0xFE 0 (Gpr Inc) ++ one_operand 0xFE 1 (Gpr Dec)
     -- FF /2, /4, /6: CALL, JMP, PUSH
     ++ digit 2 (always 0xFF Ev (Core Call)) ∷ digit 4 (always 0xFF Ev (Core Jmp))
     ∷ digit 6 (sized 0xFF Ev (Core Push)) ∷ []
@@ -74,15 +104,55 @@ two_byte =
     ++ conditions (sized 0x40 GvEv (Core Cmovcc))
     ++ conditions (always 0x80 Jz (Core Jcc))
     ++ conditions (byte 0x90 Eb (Core Setcc))
+    -- A3, AB, B3, BB: BT, BTS, BTR, BTC Ev,Gv
+    ++ sized 0xA3 EvGv (Bit Bt) ∷ sized 0xAB EvGv (Bit Bts) ∷ sized 0xB3 EvGv (Bit Btr)
+    ∷ sized 0xBB EvGv (Bit Btc) ∷ []
+    -- A4, A5, AC, AD: SHLD and SHRD Ev,Gv,Ib; Ev,Gv,CL
+    ++ sized 0xA4 EvGvIb (Bit Shld) ∷ sized 0xA5 EvGvCl (Bit Shld)
+    ∷ sized 0xAC EvGvIb (Bit Shrd) ∷ sized 0xAD EvGvCl (Bit Shrd) ∷ []
+    -- AF: IMUL Gv,Ev
+    ++ sized 0xAF GvEv (Gpr Imul) ∷ []
+    -- B0, B1: CMPXCHG Eb,Gb; Ev,Gv
+    ++ byte 0xB0 EbGb (Core Cmpxchg) ∷ sized 0xB1 EvGv (Core Cmpxchg) ∷ []
     -- B6, B7, BE, BF: MOVZX from 8 and 16 bits; MOVSX from 8 and 16
     ++ sized 0xB6 GvEb (Core Movzx) ∷ sized 0xB7 GvEw (Core Movzx) ∷ sized 0xBE GvEb (Core Movsx)
     ∷ sized 0xBF GvEw (Core Movsx) ∷ []
+    -- F3 B8: POPCNT Gv,Ev
+    ++ pf3 (sized 0xB8 GvEv (Bit Popcnt)) ∷ []
+    -- BA /4, /5, /6, /7: BT, BTS, BTR, BTC Ev,Ib
+    ++ digit 4 (sized 0xBA EvIb (Bit Bt)) ∷ digit 5 (sized 0xBA EvIb (Bit Bts))
+    ∷ digit 6 (sized 0xBA EvIb (Bit Btr)) ∷ digit 7 (sized 0xBA EvIb (Bit Btc)) ∷ []
+    -- F3 BC, BC: TZCNT, BSF Gv,Ev
+    ++ level_3 (pf3 (sized 0xBC GvEv (Bit Tzcnt))) ∷ sized 0xBC GvEv (Bit Bsf) ∷ []
+    -- F3 BD, BD: LZCNT, BSR Gv,Ev
+    ++ level_3 (pf3 (sized 0xBD GvEv (Bit Lzcnt))) ∷ sized 0xBD GvEv (Bit Bsr) ∷ []
+    -- C0, C1: XADD Eb,Gb; Ev,Gv
+    ++ byte 0xC0 EbGb (Core Xadd) ∷ sized 0xC1 EvGv (Core Xadd) ∷ []
+    -- NP C3, memory only: MOVNTI Mv,Gv
+    ++ np (sized 0xC3 MvGv (Core Movnti)) ∷ []
+    -- C7 /1, memory only: CMPXCHG8B, and with W CMPXCHG16B, aligned to 16 bytes
+    ++ without_w (digit 1 (scalar 0xC7 M 64 (Core Cmpxchg8b)))
+    ∷ aligned (with_w (digit 1 (scalar 0xC7 M 128 (Core Cmpxchg8b)))) ∷ []
     -- C8+r: BSWAP, 32 or 64
     ++ flat_map by_w (registers (scalar 0xC8 OpcodeReg 32 (Core Bswap)))
     -- NP AE /5, /6, /7, registers only: the fences, no-operations
     ++ np (digit 5 (always 0xAE R (Core Nop))) ∷ np (digit 6 (always 0xAE R (Core Nop)))
     ∷ np (digit 7 (always 0xAE R (Core Nop))) ∷ []
+    -- NP AE /7, memory only: CLFLUSH of a byte
+    ++ np (digit 7 (byte 0xAE M (Core Clflush))) ∷ []
+
+-- the map of 0F38
+unfoldable pub three_byte : List Row
+three_byte =
+    -- NP F0, 66 F0, memory only: MOVBE Gv,Mv
+    level_3 (np (sized 0xF0 GvM (Core Movbe))) ∷ level_3 (p66 (sized 0xF0 GvM (Core Movbe)))
+    -- NP F1, 66 F1, memory only: MOVBE Mv,Gv
+    ∷ level_3 (np (sized 0xF1 MvGv (Core Movbe))) ∷ level_3 (p66 (sized 0xF1 MvGv (Core Movbe))) ∷ []
+    -- 66 F6: ADCX Gv,Ev, 32 or 64
+    ++ by_w (level_3 (p66 (scalar 0xF6 GvEv 32 (Gpr Adcx))))
+    -- F3 F6: ADOX Gv,Ev, 32 or 64
+    ++ by_w (level_3 (pf3 (scalar 0xF6 GvEv 32 (Gpr Adox))))
 
 -- all of them
 unfoldable pub listing : List Row
-listing = one_byte ++ in_map 1 two_byte
+listing = one_byte ++ in_map 1 two_byte ++ in_map 2 three_byte

@@ -1,13 +1,13 @@
 -- The words in which the listing of the rows is written.
 use Rattle.std.specs.Prelude.{ℕ, zero, suc, ◌+◌, ◌*◌, true, false, Some, None, List, [], ◌∷◌, map}
 use Rattle.row_table.specs.declared.kinds.Class.TheVariants.{Legacy}
-use Rattle.row_table.specs.declared.kinds.Prefix.TheVariants.{Unmarked, Np}
+use Rattle.row_table.specs.declared.kinds.Prefix.TheVariants.{Unmarked, Np, P66, PF3}
 use Rattle.row_table.specs.declared.kinds.Operands.{Operands}
-use Rattle.row_table.specs.declared.kinds.Operands.TheVariants.{EbGb, EvGv, GbEb, GvEv, AlIb, RaxIz, EbIb, EvIb, EvIz}
+use Rattle.row_table.specs.declared.kinds.Operands.TheVariants.{EbGb, EvGv, GbEb, GvEv, AlIb, RaxIz, Eb, Ev, EbIb, EvIb, EvIz, EbOne, EvOne, EbCl, EvCl}
 use Rattle.row_table.specs.declared.kinds.Tuple.TheVariants.{NoTuple}
 use Rattle.row_table.specs.declared.kinds.MaskKind.TheVariants.{NoMask}
-use Rattle.row_table.specs.declared.kinds.Align.TheVariants.{Free}
-use Rattle.row_table.specs.declared.kinds.Level.TheVariants.{V2}
+use Rattle.row_table.specs.declared.kinds.Align.TheVariants.{Free, Sixteen}
+use Rattle.row_table.specs.declared.kinds.Level.TheVariants.{V2, V3}
 use Rattle.row_table.specs.declared.operations.Op.{Op}
 use Rattle.row_table.specs.declared.kinds.Row.{Row}
 
@@ -52,6 +52,30 @@ digit n r = record r { digit = Some n }
 abbrev pub np : Row → Row
 np r = record r { prefix = Np }
 
+-- with the mark 66
+abbrev pub p66 : Row → Row
+p66 r = record r { prefix = P66 }
+
+-- with the mark F3
+abbrev pub pf3 : Row → Row
+pf3 r = record r { prefix = PF3 }
+
+-- where W is 0
+abbrev pub without_w : Row → Row
+without_w r = record r { w = Some false }
+
+-- where W is 1
+abbrev pub with_w : Row → Row
+with_w r = record r { w = Some true }
+
+-- with its memory aligned to 16 bytes
+abbrev pub aligned : Row → Row
+aligned r = record r { align = Sixteen }
+
+-- from x86-64-v3 on
+abbrev pub level_3 : Row → Row
+level_3 r = record r { level = V3 }
+
 -- a row for each of n opcodes, from the row's own up
 abbrev pub opcodes : ℕ → Row → List Row
 opcodes zero r = []
@@ -80,6 +104,17 @@ arithmetic i op =
 abbrev pub with_immediate : ℕ → Op → List Row
 with_immediate i op =
     digit i (byte 0x80 EbIb op) ∷ digit i (sized 0x81 EvIz op) ∷ digit i (sized 0x83 EvIb op) ∷ []
+
+-- the six rows of a shift or rotation i: C0 and C1 by Ib, D0 and D1 by 1, D2 and D3 by CL, all /i
+abbrev pub shifts : ℕ → Op → List Row
+shifts i op =
+    digit i (byte 0xC0 EbIb op) ∷ digit i (sized 0xC1 EvIb op)
+    ∷ digit i (byte 0xD0 EbOne op) ∷ digit i (sized 0xD1 EvOne op)
+    ∷ digit i (byte 0xD2 EbCl op) ∷ digit i (sized 0xD3 EvCl op) ∷ []
+
+-- the two rows of an operation on Eb and on Ev: an opcode and the next, both /i
+abbrev pub one_operand : ℕ → ℕ → Op → List Row
+one_operand opcode i op = digit i (byte opcode Eb op) ∷ digit i (sized (opcode + 1) Ev op) ∷ []
 
 -- the rows of another map than the one-byte map
 abbrev pub in_map : ℕ → List Row → List Row

@@ -1,8 +1,8 @@
 -- When a row is the row of an instruction's fields.
 use Rattle.std.specs.Prelude.{◌≡◌, ℕ, zero, suc, ◌/◌, ◌%◌, ◌<◌, ◌==◌, Bool, true, false, ◌&&◌, Option, Some, None, List, slice_get, ◌⊎◌, find, if◌then◌else◌}
 use Rattle.std.specs.Bool.{beq}
-use Rattle.std.specs.List.{list_any}
-use Rattle.std.specs.Option.{option_map}
+use Rattle.std.specs.List.{list_any, position}
+use Rattle.std.specs.Option.{option_map, option_or}
 use Rattle.row_table.specs.declared.kinds.Class.{Class}
 use Rattle.row_table.specs.declared.kinds.Class.TheVariants.{Legacy, Vex, Evex}
 use Rattle.row_table.specs.declared.kinds.Prefix.{Prefix}
@@ -98,6 +98,33 @@ pub data Matches (rs : List Row) (f : Fields) (i : ℕ) : Type 0 where
 abbrev pub is_at : Class → ℕ → ℕ → Row → Bool
 is_at class map opcode r =
     (class_number r.class == class_number class) && ((r.map == map) && (r.opcode == opcode))
+
+abbrev pub prefix_number : Prefix → ℕ
+prefix_number Unmarked = 0
+prefix_number Np = 1
+prefix_number P66 = 2
+prefix_number PF3 = 3
+prefix_number PF2 = 4
+
+abbrev pub same_prefix : Prefix → Prefix → Bool
+same_prefix p q = prefix_number p == prefix_number q
+
+-- a test for `Fits`, of any row
+abbrev pub fits_at : Fields → Row → Bool
+fits_at f r = is_at f.class f.map f.opcode r && fits r f
+
+-- a test for `FitsMarked`
+abbrev pub is_marked : Fields → Row → Bool
+is_marked f r = fits_at f r && same_prefix r.prefix (mandatory f)
+
+-- a test for `FitsUnmarked`
+abbrev pub is_unmarked : Fields → Row → Bool
+is_unmarked f r = fits_at f r && same_prefix r.prefix Unmarked
+
+-- The row that the fields match, computed: the first that is marked with the prefix that is there (Intel SDM
+-- volume 2, section 2.1.2), else the first without a mark, else none.
+unfoldable pub matched : Fields → Option ℕ
+matched f = option_or (position (is_marked f) rows) (position (is_unmarked f) rows)
 
 -- the shape of a class, map and opcode: that of its first row, and all its rows have one; none where it
 -- has no row

@@ -2,7 +2,7 @@
 ghost use Rattle.std.specs.Prelude.{◌≡◌, ◌+◌, ◌<◌, ◌≤◌, ℕ, length, slice_get, slice_index, Some, IfSome, IfNone};
 ghost use Rattle.row_table.specs.Rows.{rows, starts, place};
 ghost use Rattle.row_table.specs.Shapes.{shape_of};
-ghost use Rattle.row_table.specs.Matching.{Matches, IsAt, IsTable, shape_at, map_used};
+ghost use Rattle.row_table.specs.Matching.{Matches, IsAt, IsTable, matched, shape_at, map_used};
 ghost use Rattle.row_table.specs.declared.kinds.Row.{Row as AnyRow};
 
 use crate::kinds::{Class, Fields, Row, Shape, Standing};
@@ -67,6 +67,7 @@ pub fn find(fields: &Fields) -> Option<u16>
     ensures some { IfSome result (Matches rows fields.now) }
     ensures only { IfSome result (λ i. (j : ℕ) → Matches rows fields.now j → j ≡ i) }
     ensures none { IfNone result ((i : ℕ) → Matches rows fields.now i → ⊥) }
+    ensures value { result ≡ matched fields.now }
 {
     let (start, end) = run(fields.class, fields.map, fields.opcode);
     let mut unmarked = None;

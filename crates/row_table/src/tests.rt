@@ -40,6 +40,34 @@ fn is_nop(row: Option<Row>) -> bool {
     }
 }
 
+fn is_movbe(row: Option<Row>) -> bool {
+    match row {
+        None => false,
+        Some(row) => matches!(row.op, Op::Core(CoreOp::Movbe)),
+    }
+}
+
+fn is_bsf(row: Option<Row>) -> bool {
+    match row {
+        None => false,
+        Some(row) => matches!(row.op, Op::Bit(BitOp::Bsf)),
+    }
+}
+
+fn is_tzcnt(row: Option<Row>) -> bool {
+    match row {
+        None => false,
+        Some(row) => matches!(row.op, Op::Bit(BitOp::Tzcnt)) && row.width == 0,
+    }
+}
+
+fn is_cmpxchg8b(row: Option<Row>, width: u8) -> bool {
+    match row {
+        None => false,
+        Some(row) => matches!(row.op, Op::Core(CoreOp::Cmpxchg8b)) && row.width == width,
+    }
+}
+
 fn is_bswap(row: Option<Row>, width: u8) -> bool {
     match row {
         None => false,
@@ -57,6 +85,21 @@ fn known_instructions_have_their_rows(rt: HostRuntime) {
     assert!(rt; is_nop(found(0xf3, false, false, 1, 0x1e, Some(0xfa))));
     assert!(rt; is_bswap(found(0, false, false, 1, 0xc8, None), 32));
     assert!(rt; is_bswap(found(0, false, true, 1, 0xc8, None), 64));
+    // Of F3 0F BC and 0F BC, the first is marked; F2 has no meaning there.
+    assert!(rt; is_tzcnt(found(0xf3, false, false, 1, 0xbc, Some(0xc1))));
+    assert!(rt; is_tzcnt(found(0xf3, true, false, 1, 0xbc, Some(0xc1))));
+    assert!(rt; is_bsf(found(0, true, false, 1, 0xbc, Some(0xc1))));
+    assert!(rt; is_bsf(found(0xf2, false, false, 1, 0xbc, Some(0xc1))));
+    assert!(rt; found(0, false, false, 1, 0xb8, Some(0xc1)).is_none());
+    // MOVBE needs memory, and neither F2 nor F3.
+    assert!(rt; is_movbe(found(0, false, false, 2, 0xf0, Some(0x00))));
+    assert!(rt; is_movbe(found(0, true, false, 2, 0xf1, Some(0x00))));
+    assert!(rt; found(0, false, false, 2, 0xf0, Some(0xc1)).is_none());
+    assert!(rt; found(0xf2, false, false, 2, 0xf0, Some(0x00)).is_none());
+    // CMPXCHG8B and CMPXCHG16B, which need memory.
+    assert!(rt; is_cmpxchg8b(found(0, false, false, 1, 0xc7, Some(0x08)), 64));
+    assert!(rt; is_cmpxchg8b(found(0, false, true, 1, 0xc7, Some(0x08)), 128));
+    assert!(rt; found(0, false, false, 1, 0xc7, Some(0xc8)).is_none());
     // FF /3 is a far call, 8D needs memory, 0F 0B is UD2.
     assert!(rt; found(0, false, false, 0, 0xff, Some(0x18)).is_none());
     assert!(rt; found(0, false, true, 0, 0x8d, Some(0xf5)).is_none());
@@ -74,9 +117,21 @@ fn opcodes_have_their_shapes(rt: HostRuntime) {
         (0, 0x83, Some((true, 1))),
         (1, 0x1f, Some((true, 0))),
         (1, 0x0b, None),
+        // The immediate of TEST, by ModRM.reg.
+        (0, 0xf6, Some((true, 13))),
+        (0, 0xf7, Some((true, 14))),
+        (2, 0xf6, Some((true, 0))),
+        (0, 0x69, Some((true, 10))),
+        (0, 0xa9, Some((false, 10))),
+        (0, 0xc1, Some((true, 1))),
+        (0, 0xd1, Some((true, 0))),
+        (1, 0xa4, Some((true, 1))),
+        (1, 0xa5, Some((true, 0))),
     ] {
         let found = shape(Class::Legacy, map, opcode).map(|s| (s.modrm, s.imm));
         assert!(rt; found == want, "at {opcode} of map {map}");
     }
-    assert!(rt; is_used(Class::Legacy, 1) && !is_used(Class::Evex, 0));
+    assert!(rt;
+        is_used(Class::Legacy, 2) && !is_used(Class::Legacy, 3) && !is_used(Class::Evex, 0)
+    );
 }

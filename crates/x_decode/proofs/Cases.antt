@@ -11,6 +11,7 @@ use Rattle.form_scan.specs.Shaped.{within_limit, IsWhole, IsCut}
 use Rattle.legacy_decode.specs.Spelling.{IsDecoded}
 use Rattle.x_decode.specs.declared.kinds.Seen.TheVariants.{Instr}
 use Rattle.x_decode.specs.Seeing.{IsInstr, IsShort, IsTooLong, IsBad, InRange}
+use Rattle.x_decode.proofs.Computing.{whole-some}
 
 -- neither holds
 pub neither : {A B : Type 0} → (A → ⊥) → (B → ⊥) → A ↔ B
@@ -52,7 +53,7 @@ module _ (bytes : List ℕ) (f : Fields) (n : ℕ) (t : Told bytes (Whole f n)) 
 
   -- and it spells a row of the table
   pub some-in_range : (d : Decoded) → d.row < length rows → InRange bytes (Instr d n)
-  some-in_range d row = (row, within-limit.0, within-limit.1)
+  some-in_range d row = (row, whole-some (within_limit bytes) f n ((t.whole f n).0 refl), within-limit.0, within-limit.1)
 
   same-whole : (e : Decoded) (m : ℕ) → IsInstr bytes e m → (f ≡ e.fields) × (n ≡ m)
   same-whole e m h = let w : Whole f n ≡ Whole e.fields m = (t.whole e.fields m).1 h.whole in (cc, cc)

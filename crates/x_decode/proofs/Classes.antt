@@ -7,7 +7,7 @@ use Rattle.row_table.specs.declared.kinds.Class.{Class}
 use Rattle.row_table.specs.declared.kinds.Class.TheVariants.{Legacy, Vex, Evex}
 use Rattle.row_table.specs.declared.kinds.Fields.{Fields}
 use Rattle.row_table.specs.declared.kinds.Decoded.{Decoded}
-use Rattle.row_table.specs.Families.{one_byte, two_byte, listing}
+use Rattle.row_table.specs.Families.{one_byte, two_byte, three_byte, listing}
 use Rattle.row_table.specs.Rows.{rows, insert_row, sorted}
 use Rattle.row_table.specs.Matching.{Matches, by_mark, without_mark}
 use Rattle.legacy_decode.specs.Spelling.{IsDecoded}
@@ -22,7 +22,7 @@ all_legacy [] = true
 all_legacy (r ∷ rs) = is_legacy r.class && all_legacy rs
 
 rows-legacy : all_legacy rows ≡ true
-unfolding all_legacy rows sorted insert_row listing one_byte two_byte
+unfolding all_legacy rows sorted insert_row listing one_byte two_byte three_byte
 rows-legacy = refl
 
 some_same : (r q : Row) → some r ≡ some q → r ≡ q

@@ -1,2 +1,4 @@
 pub mod Classes
 pub mod Cases
+pub mod Computing
+mod Examples

@@ -1,9 +1,15 @@
 -- What a decoder sees in some bytes: an instruction, the first bytes of one, or neither.
-use Rattle.std.specs.Prelude.{ℕ, ◌<◌, ◌≤◌, List, length, ⊤}
+use Rattle.std.specs.Prelude.{ℕ, ◌<◌, ◌≤◌, nat_lt, List, length, Option, Some, None, ⊤, if◌then◌else◌}
+use Rattle.row_table.specs.declared.kinds.Class.{Class}
+use Rattle.row_table.specs.declared.kinds.Class.TheVariants.{Legacy, Vex, Evex}
+use Rattle.row_table.specs.declared.kinds.Fields.{Fields}
 use Rattle.row_table.specs.declared.kinds.Decoded.{Decoded}
 use Rattle.row_table.specs.Rows.{rows}
+use Rattle.form_scan.specs.declared.kinds.Scan.{Scan}
+use Rattle.form_scan.specs.declared.kinds.Scan.TheVariants.{Whole, Short as Cut, Dead}
 use Rattle.form_scan.specs.Shaped.{within_limit, IsWhole, IsCut}
-use Rattle.legacy_decode.specs.Spelling.{IsDecoded}
+use Rattle.form_scan.specs.Scanning.{scanned}
+use Rattle.legacy_decode.specs.Spelling.{IsDecoded, spelled}
 use Rattle.x_decode.specs.declared.kinds.Seen.{Seen}
 use Rattle.x_decode.specs.declared.kinds.Seen.TheVariants.{Instr, Short, TooLong, Bad}
 
@@ -30,9 +36,32 @@ pub record IsBad (bytes : List ℕ) : Type 0 where
   pub not_short : IsShort bytes → ⊥
   pub not_too_long : IsTooLong bytes → ⊥
 
--- where an instruction is seen, its row is in the table, and its bytes are some of the first fifteen
+-- where an instruction is seen, its row is in the table, and it has at least one byte, and some of the first
+-- fifteen
 abbrev pub InRange : List ℕ → Seen → Type 0
-InRange bytes (Instr d n) = (d.row < length rows) × (n ≤ length bytes) × (n ≤ 15)
+InRange bytes (Instr d n) = (d.row < length rows) × (1 ≤ n) × (n ≤ length bytes) × (n ≤ 15)
 InRange bytes Short = ⊤
 InRange bytes TooLong = ⊤
 InRange bytes Bad = ⊤
+
+-- ---- the same, computed
+-- the instruction that the fields are, by the rules of their class: the table has no row of VEX and EVEX yet
+abbrev pub spelled_in : Class → Fields → Option Decoded
+spelled_in Legacy f = spelled f
+spelled_in Vex f = None
+spelled_in Evex f = None
+
+-- an instruction of n bytes, if there is one
+abbrev pub seen_whole : ℕ → Option Decoded → Seen
+seen_whole n None = Bad
+seen_whole n (Some d) = Instr d n
+
+-- of so many bytes, by what a scan of them answers
+abbrev pub seen_of : ℕ → Scan → Seen
+seen_of count (Whole f n) = seen_whole n (spelled_in f.class f)
+seen_of count Cut = if nat_lt count 15 then Short else TooLong
+seen_of count Dead = Bad
+
+-- what the bytes begin with, of which the first fifteen count (Intel SDM volume 2, section 2.3.11)
+unfoldable pub seen : List ℕ → Seen
+seen bytes = seen_of (length bytes) (scanned bytes)

@@ -1,9 +1,9 @@
 //! Which instruction some bytes begin with.
-ghost use Rattle.std.specs.Prelude.{◌≡◌, ◌↔◌, ◌<◌, ℕ, length, IfSome};
+ghost use Rattle.std.specs.Prelude.{◌≡◌, ◌↔◌, ◌<◌, ◌++◌, ℕ, List, length, IfSome};
 ghost use Rattle.row_table.specs.declared.kinds.Decoded.{Decoded as AnyDecoded};
 ghost use Rattle.row_table.specs.Rows.{rows};
 ghost use Rattle.legacy_decode.specs.Spelling.{IsDecoded};
-ghost use Rattle.x_decode.specs.Seeing.{IsInstr, IsShort, IsTooLong, IsBad, InRange};
+ghost use Rattle.x_decode.specs.Seeing.{IsInstr, IsShort, IsTooLong, IsBad, InRange, spelled_in, seen};
 
 use crate::kinds::Seen;
 use form_scan::{Scan, scan};
@@ -17,6 +17,7 @@ const LIMIT: usize = 15;
 fn matched(fields: &Fields) -> Option<Decoded>
     ensures within { IfSome result (λ d. d.row < length rows) }
     ensures some { (d : AnyDecoded) → (result ≡ Some d) ↔ IsDecoded fields.now d }
+    ensures value { result ≡ spelled_in fields.now.class fields.now }
 {
     match fields.class {
         Class::Legacy => match_legacy(fields),
@@ -32,8 +33,13 @@ pub fn decode(bytes: &[u8]) -> Seen
     ensures too_long { (result ≡ Seen.TooLong) ↔ IsTooLong bytes.now }
     ensures bad { (result ≡ Seen.Bad) ↔ IsBad bytes.now }
 
-    // The row is in the table, and the length is no greater than that of the bytes, and at most fifteen.
+    // The row is in the table, and the length is at least one, no greater than that of the bytes, and at
+    // most fifteen.
     ensures within { InRange bytes.now result }
+    ensures value { result ≡ seen bytes.now }
+
+    // More bytes change nothing, unless all of them are the first of an instruction and fewer than fifteen.
+    ensures stays { (result ≡ Seen.Short → ⊥) → (more : List ℕ) → seen (bytes.now ++ more) ≡ result }
 {
     match scan(bytes) {
         Scan::Whole(fields, len) => match matched(&fields) {

@@ -1,17 +1,27 @@
 //! Known byte lists. What is expected is the SDM's, and on want of an instruction this machine's.
 use crate::*;
-use row_table::{CoreOp, GprOp, Op, row};
+use row_table::{BitOp, CoreOp, GprOp, Op, row};
 
 /// The name of the operation, of those that the test meets.
 fn name(op: Op) -> &'static str {
     match op {
         Op::Core(CoreOp::Lea) => "lea",
         Op::Core(CoreOp::Mov) => "mov",
+        Op::Core(CoreOp::Movbe) => "movbe",
         Op::Core(CoreOp::Nop) => "nop",
         Op::Core(CoreOp::Ret) => "ret",
         Op::Core(CoreOp::Syscall) => "syscall",
         Op::Core(CoreOp::Xchg) => "xchg",
+        Op::Core(CoreOp::Cmpxchg8b) => "cmpxchg8b",
         Op::Gpr(GprOp::Xor) => "xor",
+        Op::Gpr(GprOp::Add) => "add",
+        Op::Gpr(GprOp::Test) => "test",
+        Op::Gpr(GprOp::Neg) => "neg",
+        Op::Gpr(GprOp::Adcx) => "adcx",
+        Op::Gpr(GprOp::Adox) => "adox",
+        Op::Bit(BitOp::Bts) => "bts",
+        Op::Bit(BitOp::Tzcnt) => "tzcnt",
+        Op::Bit(BitOp::Bsf) => "bsf",
         _ => "another",
     }
 }
@@ -31,7 +41,7 @@ fn known_bytes_are_seen_as_the_manual_says(rt: HostRuntime) {
     let bad = ("bad", 0, 0);
     let short = ("short", 0, 0);
     let too_long = ("too long", 0, 0);
-    let rows: [(&[u8], (&str, u8, i64)); 28] = [
+    let rows: [(&[u8], (&str, u8, i64)); 48] = [
         (&[0xf3, 0xc3], ("ret", 2, 0)),
         (&[0xc3, 0xc3], ("ret", 1, 0)),
         (&[0x0f, 0x05], ("syscall", 2, 0)),
@@ -50,6 +60,29 @@ fn known_bytes_are_seen_as_the_manual_says(rt: HostRuntime) {
         (&[0xf0, 0x31, 0xc0], bad),
         (&[0xf0, 0x33, 0x00], bad),
         (&[0xf0, 0x89, 0x00], bad),
+        (&[0xf0, 0x01, 0x08], ("add", 3, 0)),
+        (&[0xf0, 0x03, 0x08], bad),
+        (&[0xf0, 0x39, 0x08], bad),
+        (&[0xf0, 0x0f, 0xab, 0x08], ("bts", 4, 0)),
+        (&[0xf0, 0x0f, 0xa3, 0x08], bad),
+        (&[0xf0, 0x0f, 0xab, 0xc8], bad),
+        // Rows by their mark: MOVBE with NP and 66, ADCX, ADOX, TZCNT and BSF.
+        (&[0x0f, 0x38, 0xf0, 0x00], ("movbe", 4, 0)),
+        (&[0x66, 0x0f, 0x38, 0xf0, 0x00], ("movbe", 5, 0)),
+        (&[0x66, 0x0f, 0x38, 0xf6, 0xc1], ("adcx", 5, 0)),
+        (&[0xf3, 0x0f, 0x38, 0xf6, 0xc1], ("adox", 5, 0)),
+        (&[0x0f, 0x38, 0xf6, 0xc1], bad),
+        (&[0xf3, 0x0f, 0xbc, 0xc1], ("tzcnt", 4, 0)),
+        (&[0x0f, 0xbc, 0xc1], ("bsf", 3, 0)),
+        // TEST has an immediate, and NEG of the same opcode none.
+        (&[0xf6, 0xc0, 0x05], ("test", 3, 0)),
+        (&[0xf6, 0xd8], ("neg", 2, 0)),
+        (&[0x66, 0xf7, 0xc0, 0x34, 0x12], ("test", 5, 0)),
+        // No such digit, and CMPXCHG8B with a register.
+        (&[0xc0, 0xf0, 0x01], bad),
+        (&[0xfe, 0xd0], bad),
+        (&[0x0f, 0xc7, 0x08], ("cmpxchg8b", 3, 0)),
+        (&[0x0f, 0xc7, 0xc8], bad),
         // ADDPS, AESENC and CRC32, and a LEA without memory.
         (&[0x0f, 0x58, 0xc1], bad),
         (&[0x66, 0x0f, 0x38, 0xdc, 0xc1], bad),
@@ -77,5 +110,39 @@ fn known_bytes_are_seen_as_the_manual_says(rt: HostRuntime) {
     ];
     for (bytes, want) in rows {
         assert_eq!(rt; told_of(bytes), want, "at {bytes:?}");
+    }
+}
+
+/// The operation's name and the bits of its general operand: the row's, or the operand size.
+fn sized(bytes: &[u8]) -> (&'static str, u8) {
+    match decode(bytes) {
+        Seen::Instr(decoded, _) => {
+            let row = row(decoded.row);
+            let bits = match (row.width, decoded.fields.w, decoded.fields.p66) {
+                (0, true, _) => 64,
+                (0, false, true) => 16,
+                (0, false, false) => 32,
+                (width, _, _) => width,
+            };
+            (name(row.op), bits)
+        }
+        Seen::Short | Seen::TooLong | Seen::Bad => ("none", 0),
+    }
+}
+
+#[test]
+fn operands_have_their_sizes(rt: HostRuntime) {
+    let rows: [(&[u8], (&str, u8)); 8] = [
+        (&[0xf3, 0x0f, 0xbc, 0xc1], ("tzcnt", 32)),
+        (&[0x66, 0xf3, 0x0f, 0xbc, 0xc1], ("tzcnt", 16)),
+        (&[0xf3, 0x66, 0x0f, 0xbc, 0xc1], ("tzcnt", 16)),
+        (&[0x66, 0x0f, 0x38, 0xf0, 0x00], ("movbe", 16)),
+        (&[0x66, 0x48, 0x0f, 0x38, 0xf0, 0x00], ("movbe", 64)),
+        (&[0x66, 0x0f, 0x38, 0xf6, 0xc1], ("adcx", 32)),
+        (&[0xf3, 0x48, 0x0f, 0x38, 0xf6, 0xc1], ("adox", 64)),
+        (&[0x48, 0x0f, 0xc7, 0x08], ("cmpxchg8b", 128)),
+    ];
+    for (bytes, want) in rows {
+        assert_eq!(rt; sized(bytes), want, "at {bytes:?}");
     }
 }

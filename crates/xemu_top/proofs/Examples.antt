@@ -1,15 +1,32 @@
 -- What the written command gives for small programs, computed: the sample program and its variants.
-use Rattle.std.proofs.Common.{◌≡◌, ℕ, List, [], ◌∷◌, Option, Some, refl, set}
+use Rattle.std.proofs.Common.{◌≡◌, ℕ, List, [], ◌∷◌, Option, Some, None, refl, set}
 use Rattle.std.specs.Option.{option_map}
 use Rattle.machine_state.specs.Memory.{first_miss, bytes_at, allowed_run}
 use Rattle.machine_state.specs.State.{State}
-use Rattle.core_step.specs.Decode.{seen, seen_form}
-use Rattle.core_step.specs.Act.{act}
+use Rattle.row_table.specs.Families.{listing, one_byte, two_byte, three_byte}
+use Rattle.row_table.specs.Rows.{rows, sorted, insert_row}
+use Rattle.row_table.specs.Matching.{fits, matched, shape_at}
+use Rattle.form_scan.specs.Front.{in_front}
+use Rattle.form_scan.specs.Payload.{of_rex}
+use Rattle.form_scan.specs.Shaped.{within_limit, number_of, signed_of, fields_of}
+use Rattle.form_scan.specs.Reading.{after, lead_at, shaped_head, escape_at, head_at, optional_at, chunk_at, tail_at, fields_at}
+use Rattle.form_scan.specs.Scanning.{scanned}
+use Rattle.legacy_decode.specs.Lock.{operation_locks, writes_rm, lock_fits}
+use Rattle.legacy_decode.specs.Spelling.{spelled}
+use Rattle.x_decode.specs.Seeing.{seen}
+use Rattle.gpr_units.specs.Alu.{scalar_of, alu_scalar}
+use Rattle.core_step.specs.Address.{base_of, scaled_index, offset_of, address_of}
+use Rattle.core_step.specs.Operands.{destination_spot, source_spot, third_spot, operand_at, core_size, core_source_size, core_stack, core_destination, core_source, core_third, gpr_wide, gpr_third, core_use, gpr_use, destination_in, source_in, third_in, instruction_as, instruction_of}
+use Rattle.core_step.specs.Plan.{core_plan, plan_of}
+use Rattle.core_step.specs.Access.{accesses_of, first_fault}
+use Rattle.core_step.specs.Result.{core_outcome, gpr_outcome, outcome_of}
+use Rattle.core_step.specs.Act.{value_of, gprs_left, byte_left, performed_as, performed, act}
+use Rattle.xemu_top.specs.declared.ends.End.{End}
 use Rattle.xemu_top.specs.declared.ends.End.TheVariants.{Exit, Killed, Budget, Image}
 use Rattle.xemu_top.specs.Call.{put_bytes, put_answer, called}
 use Rattle.xemu_top.specs.Step.{step}
 use Rattle.xemu_top.specs.Run.{run, Outside}
-use Rattle.xemu_top.specs.Command.{command, image_fits, header_fits, sizes_fit, entry_of, image_memory, first_state, first_world, status_of}
+use Rattle.xemu_top.specs.Command.{Outcome, command, image_fits, header_fits, sizes_fit, entry_of, image_memory, first_state, first_world, status_of}
 
 -- the sample program: a header, eight instructions from byte 120 on, and `hello` with a line feed
 abbrev pub hello : List ℕ
@@ -43,73 +60,65 @@ with_file bytes = record { files = λ path. Some bytes; left = []; out = []; err
 abbrev run_h : List (List ℕ)
 run_h = (114 ∷ 117 ∷ 110 ∷ []) ∷ (104 ∷ []) ∷ []
 
-abbrev steps_of : Option State → Option ℕ
-steps_of state = option_map (λ s. s.steps) state
+-- how a command ends, the status, what stands on the output, and how many steps the machine took
+pub record Shown : Type 0 where
+  pub end : End
+  pub status : ℕ
+  pub output : List ℕ
+  pub steps : Option ℕ
 
-hello-output : (command 1000000000000 run_h (with_file hello)).outside.out ≡ hello_text
-unfolding command image_fits header_fits sizes_fit entry_of image_memory first_state first_world run step act called put_bytes put_answer seen seen_form allowed_run first_miss bytes_at
-hello-output = refl
+abbrev shown : Outcome → Shown
+shown outcome = record {
+  end = outcome.end;
+  status = status_of outcome.end;
+  output = outcome.outside.out;
+  steps = option_map (λ (s : State). s.steps) outcome.machine;
+}
 
-hello-end : (command 1000000000000 run_h (with_file hello)).end ≡ Exit 0
-unfolding command image_fits header_fits sizes_fit entry_of image_memory first_state first_world run step act called put_bytes put_answer seen seen_form allowed_run first_miss bytes_at
-hello-end = refl
+-- it prints its text and exits
+hello-runs : shown (command 1000000000000 run_h (with_file hello))
+    ≡ record { end = Exit 0; status = 0; output = hello_text; steps = Some 8 }
+unfolding command image_fits header_fits sizes_fit entry_of image_memory first_state first_world run step called put_bytes put_answer allowed_run first_miss bytes_at act performed performed_as plan_of core_plan instruction_of instruction_as operand_at destination_spot source_spot third_spot core_third gpr_wide gpr_third gpr_use destination_in source_in third_in core_size core_source_size core_stack core_destination core_source core_use base_of scaled_index offset_of address_of accesses_of first_fault value_of core_outcome gpr_outcome scalar_of alu_scalar outcome_of gprs_left byte_left seen scanned within_limit fields_at lead_at in_front after head_at escape_at shaped_head of_rex shape_at tail_at optional_at chunk_at fields_of number_of signed_of spelled matched fits lock_fits operation_locks writes_rm rows listing one_byte two_byte three_byte sorted insert_row
+hello-runs = refl
 
-hello-steps : steps_of (command 1000000000000 run_h (with_file hello)).machine ≡ Some 8
-unfolding command image_fits header_fits sizes_fit entry_of image_memory first_state first_world run step act called put_bytes put_answer seen seen_form allowed_run first_miss bytes_at
-hello-steps = refl
-
-hello-after_three : (command 3 run_h (with_file hello)).end ≡ Budget
-unfolding command image_fits header_fits sizes_fit entry_of image_memory first_state first_world run step act called put_bytes put_answer seen seen_form allowed_run first_miss bytes_at
+-- three steps are before its first call
+hello-after_three : shown (command 3 run_h (with_file hello))
+    ≡ record { end = Budget; status = 75; output = []; steps = Some 3 }
+unfolding command image_fits header_fits sizes_fit entry_of image_memory first_state first_world run step called put_bytes put_answer allowed_run first_miss bytes_at act performed performed_as plan_of core_plan instruction_of instruction_as operand_at destination_spot source_spot third_spot core_third gpr_wide gpr_third gpr_use destination_in source_in third_in core_size core_source_size core_stack core_destination core_source core_use base_of scaled_index offset_of address_of accesses_of first_fault value_of core_outcome gpr_outcome scalar_of alu_scalar outcome_of gprs_left byte_left seen scanned within_limit fields_at lead_at in_front after head_at escape_at shaped_head of_rex shape_at tail_at optional_at chunk_at fields_of number_of signed_of spelled matched fits lock_fits operation_locks writes_rm rows listing one_byte two_byte three_byte sorted insert_row
 hello-after_three = refl
 
-hello-after_three_output : (command 3 run_h (with_file hello)).outside.out ≡ []
-unfolding command image_fits header_fits sizes_fit entry_of image_memory first_state first_world run step act called put_bytes put_answer seen seen_form allowed_run first_miss bytes_at
-hello-after_three_output = refl
-
-hello-after_eight : (command 8 run_h (with_file hello)).end ≡ Exit 0
-unfolding command image_fits header_fits sizes_fit entry_of image_memory first_state first_world run step act called put_bytes put_answer seen seen_form allowed_run first_miss bytes_at
+-- its last step ends it at that budget too
+hello-after_eight : shown (command 8 run_h (with_file hello))
+    ≡ record { end = Exit 0; status = 0; output = hello_text; steps = Some 8 }
+unfolding command image_fits header_fits sizes_fit entry_of image_memory first_state first_world run step called put_bytes put_answer allowed_run first_miss bytes_at act performed performed_as plan_of core_plan instruction_of instruction_as operand_at destination_spot source_spot third_spot core_third gpr_wide gpr_third gpr_use destination_in source_in third_in core_size core_source_size core_stack core_destination core_source core_use base_of scaled_index offset_of address_of accesses_of first_fault value_of core_outcome gpr_outcome scalar_of alu_scalar outcome_of gprs_left byte_left seen scanned within_limit fields_at lead_at in_front after head_at escape_at shaped_head of_rex shape_at tail_at optional_at chunk_at fields_of number_of signed_of spelled matched fits lock_fits operation_locks writes_rm rows listing one_byte two_byte three_byte sorted insert_row
 hello-after_eight = refl
-
-hello-after_eight_steps : steps_of (command 8 run_h (with_file hello)).machine ≡ Some 8
-unfolding command image_fits header_fits sizes_fit entry_of image_memory first_state first_world run step act called put_bytes put_answer seen seen_form allowed_run first_miss bytes_at
-hello-after_eight_steps = refl
 
 -- its first three bytes of code are 0F 58 C1, ADDPS, which no row has
 abbrev unsupported : List ℕ
 unsupported = set (set (set hello 120 15) 121 88) 122 193
 
-unsupported-end : (command 1000000000000 run_h (with_file unsupported)).end ≡ Killed 4
-unfolding command image_fits header_fits sizes_fit entry_of image_memory first_state first_world run step act called put_bytes put_answer seen seen_form allowed_run first_miss bytes_at
-unsupported-end = refl
-
-unsupported-status : status_of (command 1000000000000 run_h (with_file unsupported)).end ≡ 132
-unfolding command image_fits header_fits sizes_fit entry_of image_memory first_state first_world run step act called put_bytes put_answer seen seen_form allowed_run first_miss bytes_at
-unsupported-status = refl
-
-unsupported-output : (command 1000000000000 run_h (with_file unsupported)).outside.out ≡ []
-unfolding command image_fits header_fits sizes_fit entry_of image_memory first_state first_world run step act called put_bytes put_answer seen seen_form allowed_run first_miss bytes_at
-unsupported-output = refl
+-- the guest is killed by SIGILL
+unsupported-killed : shown (command 1000000000000 run_h (with_file unsupported))
+    ≡ record { end = Killed 4; status = 132; output = []; steps = Some 1 }
+unfolding command image_fits header_fits sizes_fit entry_of image_memory first_state first_world run step called put_bytes put_answer allowed_run first_miss bytes_at act performed performed_as plan_of core_plan instruction_of instruction_as operand_at destination_spot source_spot third_spot core_third gpr_wide gpr_third gpr_use destination_in source_in third_in core_size core_source_size core_stack core_destination core_source core_use base_of scaled_index offset_of address_of accesses_of first_fault value_of core_outcome gpr_outcome scalar_of alu_scalar outcome_of gprs_left byte_left seen scanned within_limit fields_at lead_at in_front after head_at escape_at shaped_head of_rex shape_at tail_at optional_at chunk_at fields_of number_of signed_of spelled matched fits lock_fits operation_locks writes_rm rows listing one_byte two_byte three_byte sorted insert_row
+unsupported-killed = refl
 
 -- it asks for call 7 in the place of write, which answers ENOSYS
 abbrev other_call : List ℕ
 other_call = set hello 121 7
 
-other_call-end : (command 1000000000000 run_h (with_file other_call)).end ≡ Exit 0
-unfolding command image_fits header_fits sizes_fit entry_of image_memory first_state first_world run step act called put_bytes put_answer seen seen_form allowed_run first_miss bytes_at
-other_call-end = refl
-
-other_call-output : (command 1000000000000 run_h (with_file other_call)).outside.out ≡ []
-unfolding command image_fits header_fits sizes_fit entry_of image_memory first_state first_world run step act called put_bytes put_answer seen seen_form allowed_run first_miss bytes_at
-other_call-output = refl
-
-other_call-steps : steps_of (command 1000000000000 run_h (with_file other_call)).machine ≡ Some 8
-unfolding command image_fits header_fits sizes_fit entry_of image_memory first_state first_world run step act called put_bytes put_answer seen seen_form allowed_run first_miss bytes_at
-other_call-steps = refl
+-- it writes nothing and goes on
+other_call-goes_on : shown (command 1000000000000 run_h (with_file other_call))
+    ≡ record { end = Exit 0; status = 0; output = []; steps = Some 8 }
+unfolding command image_fits header_fits sizes_fit entry_of image_memory first_state first_world run step called put_bytes put_answer allowed_run first_miss bytes_at act performed performed_as plan_of core_plan instruction_of instruction_as operand_at destination_spot source_spot third_spot core_third gpr_wide gpr_third gpr_use destination_in source_in third_in core_size core_source_size core_stack core_destination core_source core_use base_of scaled_index offset_of address_of accesses_of first_fault value_of core_outcome gpr_outcome scalar_of alu_scalar outcome_of gprs_left byte_left seen scanned within_limit fields_at lead_at in_front after head_at escape_at shaped_head of_rex shape_at tail_at optional_at chunk_at fields_of number_of signed_of spelled matched fits lock_fits operation_locks writes_rm rows listing one_byte two_byte three_byte sorted insert_row
+other_call-goes_on = refl
 
 -- its type is 4, a core file
 abbrev core_file : List ℕ
 core_file = set hello 16 4
 
-core_file-end : (command 1000000000000 run_h (with_file core_file)).end ≡ Image (record { number = 15; place = 0 })
-unfolding command image_fits header_fits sizes_fit entry_of image_memory first_state first_world run step act called put_bytes put_answer seen seen_form allowed_run first_miss bytes_at
-core_file-end = refl
+-- the image is refused
+core_file-refused : shown (command 1000000000000 run_h (with_file core_file))
+    ≡ record { end = Image (record { number = 15; place = 0 }); status = 65; output = []; steps = None }
+unfolding command image_fits header_fits sizes_fit entry_of image_memory first_state first_world run step called put_bytes put_answer allowed_run first_miss bytes_at act performed performed_as plan_of core_plan instruction_of instruction_as operand_at destination_spot source_spot third_spot core_third gpr_wide gpr_third gpr_use destination_in source_in third_in core_size core_source_size core_stack core_destination core_source core_use base_of scaled_index offset_of address_of accesses_of first_fault value_of core_outcome gpr_outcome scalar_of alu_scalar outcome_of gprs_left byte_left seen scanned within_limit fields_at lead_at in_front after head_at escape_at shaped_head of_rex shape_at tail_at optional_at chunk_at fields_of number_of signed_of spelled matched fits lock_fits operation_locks writes_rm rows listing one_byte two_byte three_byte sorted insert_row
+core_file-refused = refl

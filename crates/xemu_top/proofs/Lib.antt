@@ -1,3 +1,4 @@
+pub mod Residence
 mod Examples
 pub mod CallLemmas
 pub mod RunLemmas

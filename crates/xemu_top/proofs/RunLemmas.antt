@@ -5,15 +5,15 @@ use Rattle.machine_state.specs.declared.kinds.RunEnd.TheVariants.{Budget}
 use Rattle.machine_state.specs.World.{World}
 use Rattle.core_step.specs.Act.{After, act}
 use Rattle.xemu_top.specs.Call.{Ran}
-use Rattle.xemu_top.specs.Step.{step, after_act}
+use Rattle.xemu_top.specs.Step.{step, after_part}
 use Rattle.xemu_top.specs.Run.{run, Files, Outside, outside, Between, MayStand}
 use Rattle.xemu_top.specs.Command.{end_of}
 use Rattle.xemu_top.specs.Following.{Follows, Runs}
 
 -- a step by what its instruction's own part leaves
-pub step_is : (w : World) (after : After) → after ≡ act w.state → step w ≡ after_act after.acted (record w { state = after.state })
+pub step_is : (w : World) (after : After) → act w.state ≡ after → step w ≡ after_part after w
 unfolding step
-step_is w after is = ap (λ (a : After). after_act a.acted (record w { state = a.state })) (sym is)
+step_is w after is = ap (λ (a : After). after_part a w) is
 
 -- one step that doesn't end, and then the rest
 run-goes_on : (w : World) (steps : ℕ) → (step w).end ≡ None → run w (suc steps) ≡ run (step w).world steps

@@ -7,7 +7,8 @@ use Rattle.machine_state.specs.declared.kinds.RunEnd.{RunEnd}
 use Rattle.machine_state.specs.declared.kinds.HostCall.{HostCall}
 use Rattle.machine_state.specs.declared.kinds.HostCall.TheVariants.{Load, Store, SwapOpen, SwapGet, SwapPut, Take, PutOut, PutErr}
 use Rattle.machine_state.specs.Memory.{Memory}
-use Rattle.machine_state.specs.State.{State, no_flags, initial_extended}
+use Rattle.gpr_flags.specs.Flags.{no_flags}
+use Rattle.machine_state.specs.State.{State, initial_extended}
 use Rattle.machine_state.specs.World.{World, default_action, no_alternate, first_descriptors}
 use Rattle.xemu_top.specs.declared.ends.End.{End}
 use Rattle.xemu_top.specs.declared.ends.End.TheVariants.{Exit, Killed, Budget, Words, Image, Host, Memory as NoMemory}

@@ -1,12 +1,12 @@
 -- One step: an instruction, or an attempt that raised a fault, with the system call's answer or the fault's signal.
 use Rattle.std.specs.Prelude.{ℕ, ◌+◌}
-use Rattle.machine_state.specs.declared.kinds.Fault.{Fault}
-use Rattle.machine_state.specs.declared.kinds.Fault.TheVariants.{Divide, Breakpoint, Undefined, General, Page}
+use Rattle.gpr_flags.specs.declared.kinds.Fault.{Fault}
+use Rattle.gpr_flags.specs.declared.kinds.Fault.TheVariants.{Divide, Breakpoint, Undefined, General, Page}
 use Rattle.machine_state.specs.declared.kinds.RunEnd.TheVariants.{Killed}
 use Rattle.machine_state.specs.World.{World}
 use Rattle.core_step.specs.declared.acted.Acted.{Acted}
 use Rattle.core_step.specs.declared.acted.Acted.TheVariants.{Done, Call, Trap, Need}
-use Rattle.core_step.specs.Act.{act}
+use Rattle.core_step.specs.Act.{After, act}
 use Rattle.xemu_top.specs.Call.{Ran, goes_on, ends, called}
 
 -- the signal of a fault: SIGFPE, SIGTRAP, SIGILL, SIGSEGV (signal(7) of Linux; SDM volume 3, 6.15)
@@ -30,5 +30,8 @@ after_act Call w = counted (called w)
 after_act (Trap fault) w = counted (ends (Killed (signal_of fault)) w)
 after_act (Need slot) w = goes_on w
 
+abbrev pub after_part : After → World → Ran
+after_part after w = after_act after.acted (record w { state = after.state })
+
 unfoldable pub step : World → Ran
-step w = after_act (act w.state).acted (record w { state = (act w.state).state })
+step w = after_part (act w.state) w

@@ -10,10 +10,10 @@ ghost use Rattle.xemu_top.specs.Command.{image_fits as image_fits_spec, header_f
 ghost use Rattle.xemu_top.specs.Loading.{IsLoaded, LoadCaused, AreMapped, image_perms};
 
 use byteorder::{ByteOrder, LittleEndian};
-use core_step::{Gprs, Machine};
+use core_step::Machine;
+use gpr_flags::{Flags, Gprs};
 use guest_pages::{Pages, Perms};
 use host_edge::Host;
-use machine_state::Flags;
 use std::alloc::{AllocError, Global};
 
 /// The most bytes of a program file.
@@ -79,6 +79,7 @@ pub(crate) fn load_file<H: Host>(alloc: Global, path: &str, host: &mut H) -> Loa
                 Loaded::Long
             } else {
                 buffer.truncate(len as usize);
+                buffer.shrink_to_fit();
                 Loaded::Whole(buffer)
             }
         }
@@ -176,15 +177,7 @@ pub(crate) fn first_machine(alloc: Global, bytes: &[u8]) -> Result<Machine, Allo
     let pages = image_pages(alloc, bytes)?;
     Ok(Machine {
         gprs: Gprs::new(),
-        flags: Flags {
-            cf: false,
-            pf: false,
-            af: false,
-            zf: false,
-            sf: false,
-            df: false,
-            ovf: false,
-        },
+        flags: Flags::none(),
         rip: number_from(bytes, 24),
         pages,
         steps: 0,

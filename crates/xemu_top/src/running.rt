@@ -1,13 +1,16 @@
 //! Whole steps, and runs of them.
 ghost use Rattle.std.specs.Prelude.{◌≡◌, ◌<◌, ◌≤◌, ◌+◌, ◌-◌, ◌^◌, Some, is_some};
 ghost use Rattle.guest_pages.specs.Changes.{AllResident};
-ghost use Rattle.xemu_top.specs.Step.{step, signal_of as signal_of_fault};
+ghost use Rattle.legacy_decode.specs.Spelling.{IsDecoded};
+ghost use Rattle.core_step.specs.Act.{performed};
+ghost use Rattle.xemu_top.specs.Step.{step, after_part, signal_of as signal_of_fault};
 ghost use Rattle.xemu_top.specs.Following.{FollowsAt, RunsAt, IsCaused, SignalFits, stopped_by};
 
 use crate::calls::answer_call;
-use core_step::{Acted, Machine};
+use core_step::{Acted, Decoded, Fetched, Machine};
+use gpr_flags::Fault;
 use host_edge::Sink;
-use machine_state::{Fault, RunEnd};
+use machine_state::RunEnd;
 
 /// The signal that a fault raises.
 fn signal_of(fault: Fault) -> u8
@@ -21,7 +24,51 @@ fn signal_of(fault: Fault) -> u8
     }
 }
 
-/// One whole step: an instruction with its system call's answer, or the end by a fault's signal.
+/// Ends the guest by the signal of a fault. That is a step too.
+fn kill(machine: &mut Machine, fault: Fault) -> RunEnd
+    requires { machine.old.steps < 2 ^ 64 - 1 }
+    ensures end { result ≡ RunEnd.Killed (signal_of_fault fault) }
+    ensures machine { machine.new ≡ record machine.old { steps = machine.old.steps + 1 } }
+{
+    machine.steps += 1;
+    RunEnd::Killed(signal_of(fault))
+}
+
+/// Performs an instruction of so many bytes, with its system call's answer, or ends the guest by its fault's signal.
+fn perform<O: Sink, E: Sink>(
+    machine: &mut Machine,
+    d: &Decoded,
+    len: u8,
+    out: &mut O,
+    err: &mut E,
+) -> Option<RunEnd>
+    requires spells { IsDecoded d.now.fields d.now }
+    requires some { 1 ≤ len }
+    requires most { len ≤ 15 }
+    requires room { machine.old.steps < 2 ^ 64 - 1 }
+    requires resident { AllResident machine.old.pages }
+    ensures follows { FollowsAt (λ w. after_part (performed d.now len w.state) w) machine.old machine.new
+        (O.taken out.old) (O.taken out.new) (E.taken err.old) (E.taken err.new) result }
+    ensures resident { AllResident machine.new.pages }
+    ensures steps { machine.new.steps ≡ machine.old.steps + 1 }
+    ensures out_tells { is_some (O.taken out.new) ≡ is_some (O.taken out.old) }
+    ensures err_tells { is_some (E.taken err.new) ≡ is_some (E.taken err.old) }
+    ensures cause { IsCaused (stopped_by result) (O.faults out.old) (O.faults out.new) (E.faults err.old) (E.faults err.new) }
+    ensures signal { SignalFits result }
+{
+    match machine.perform(d, len) {
+        Acted::Done => None,
+        Acted::Call => {
+            let end = answer_call(machine, out, err);
+            machine.steps += 1;
+            end
+        }
+        Acted::Trap(fault) => Some(kill(machine, fault)),
+        Acted::Need(_) => unreachable!(),
+    }
+}
+
+/// One whole step: an instruction is fetched and performed, or the guest ends by the fault of its fetch.
 fn turn<O: Sink, E: Sink>(machine: &mut Machine, out: &mut O, err: &mut E) -> Option<RunEnd>
     requires room { machine.old.steps < 2 ^ 64 - 1 }
     requires resident { AllResident machine.old.pages }
@@ -34,18 +81,10 @@ fn turn<O: Sink, E: Sink>(machine: &mut Machine, out: &mut O, err: &mut E) -> Op
     ensures cause { IsCaused (stopped_by result) (O.faults out.old) (O.faults out.new) (E.faults err.old) (E.faults err.new) }
     ensures signal { SignalFits result }
 {
-    match machine.step() {
-        Acted::Done => None,
-        Acted::Call => {
-            let end = answer_call(machine, out, err);
-            machine.steps += 1;
-            end
-        }
-        Acted::Trap(fault) => {
-            machine.steps += 1;
-            Some(RunEnd::Killed(signal_of(fault)))
-        }
-        Acted::Need(_) => unreachable!(),
+    match machine.fetch() {
+        Fetched::Instr(d, len) => perform(machine, &d, len, out, err),
+        Fetched::Trap(fault) => Some(kill(machine, fault)),
+        Fetched::Need(_) => unreachable!(),
     }
 }
 

@@ -67,6 +67,17 @@ fn hello_with(changes: &[(usize, u8)]) -> [u8; 159] {
     bytes
 }
 
+/// The sample program with other code at its entry.
+fn with_code(code: &[u8]) -> [u8; 159] {
+    let mut bytes = HELLO;
+    for k in 0..code.len() {
+        if k < 39 {
+            bytes[120 + k] = code[k];
+        }
+    }
+    bytes
+}
+
 fn steps_of(ended: &Ended) -> Option<u64> {
     match &ended.machine {
         Some(machine) => Some(machine.steps),
@@ -97,6 +108,56 @@ fn hello_prints_and_exits_and_its_variants_end_as_they_should(rt: HostRuntime) -
         assert_eq!(rt; left.out.bytes(), text.as_bytes());
         assert_eq!(rt; left.err.bytes().len(), 0);
         assert_eq!(rt; steps_of(&left.ended), steps);
+    }
+    Ok(())
+}
+
+/// Each row has the code, the end, the status and the steps. The loop is counted and its status computed as a processor
+/// does, where the same image was run.
+#[test]
+fn code_ends_as_it_should(rt: HostRuntime) -> Result<(), Fail> {
+    let alloc = rt.alloc();
+    let rows: [(&[u8], End, u8, u64); 8] = [
+        // mov ecx, 3; lea edi, [rdi + 5]; loop to the lea; mov eax, 60; syscall
+        (
+            &[
+                0xB9, 3, 0, 0, 0, 0x8D, 0x7F, 5, 0xE2, 0xFB, 0xB8, 60, 0, 0, 0, 0x0F, 5,
+            ],
+            End::Exit(15),
+            15,
+            9,
+        ),
+        // a no-operation of ten bytes, mov al, 60 and syscall
+        (
+            &[
+                0x66, 0x2E, 0x0F, 0x1F, 0x84, 0, 0, 0, 0, 0, 0xB0, 60, 0x0F, 5,
+            ],
+            End::Exit(0),
+            0,
+            3,
+        ),
+        // xor ecx, ecx; div ecx; then the least number divided by -1
+        (&[0x31, 0xC9, 0xF7, 0xF1], End::Killed(8), 136, 2),
+        (
+            &[
+                0xB8, 0, 0, 0, 0x80, 0x99, 0xB9, 0xFF, 0xFF, 0xFF, 0xFF, 0xF7, 0xF9,
+            ],
+            End::Killed(8),
+            136,
+            4,
+        ),
+        // int3; hlt; ret, with no stack; fifteen prefixes
+        (&[0xCC], End::Killed(5), 133, 1),
+        (&[0xF4], End::Killed(11), 139, 1),
+        (&[0xF3, 0xC3], End::Killed(11), 139, 1),
+        (&[0x66; 15], End::Killed(11), 139, 1),
+    ];
+    for (code, end, status, steps) in rows {
+        let left = run_command(alloc, ["run", "hello"], &with_code(code), 100, &[])?;
+        assert_eq!(rt; left.ended.end, end);
+        assert_eq!(rt; left.ended.status, status);
+        assert_eq!(rt; left.out.bytes().len(), 0);
+        assert_eq!(rt; steps_of(&left.ended), Some(steps));
     }
     Ok(())
 }

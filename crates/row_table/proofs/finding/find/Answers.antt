@@ -2,8 +2,9 @@ use Rattle.std.proofs.Common.{Option, sym, subst, ℕ, ◌+◌}
 use Rattle.row_table.specs.Rows.{rows}
 use Rattle.row_table.specs.Matching.{by_mark}
 use Rattle.row_table.proofs.Pairs.{unmarked-not-marked}
-use Rattle.row_table.proofs.Search.{Kept, kept-unmarked, kept-skip, found, found-only}
+use Rattle.row_table.proofs.Search.{Kept, kept-unmarked, kept-skip, found, found-absent, found-only}
 use Rattle.row_table.proofs.Unique.{one-row}
+use Rattle.row_table.proofs.Computing.{matched-some, matched-is}
 use Rattle.row_table.proofs.finding.find.Goals.{in-Unmarked, in-Apart}
 use Rattle.row_table.proofs.finding.find.Goals as goal
 
@@ -31,3 +32,11 @@ returns-clause-some c = found rows c.args.fields.now _ _ _ c.loop-i.unmarked c.r
 pub returns-clause-only : goal.returns-clause-only
 returns-clause-only c =
     found-only rows c.args.fields.now c.loop-i.unmarked (one-row c.args.fields.now) (found rows c.args.fields.now _ _ _ c.loop-i.unmarked c.run-start.ensures.holds c.loop-i-test.false c.loop-i.invariant)
+
+pub returns-in-Marked-clause-value : goal.returns-in-Marked-clause-value
+returns-in-Marked-clause-value c =
+    matched-some c.args.fields.now c.loop-i.i (by_mark c.row.result c.row.ensures c.in-Marked.ensures) (returns-in-Marked-clause-only c)
+
+pub returns-clause-value : goal.returns-clause-value
+returns-clause-value c = matched-is c.args.fields.now c.loop-i.unmarked (returns-clause-some c) (returns-clause-only c)
+    (found-absent rows c.args.fields.now _ _ _ c.loop-i.unmarked c.run-start.ensures.holds c.loop-i-test.false c.loop-i.invariant)

@@ -1,5 +1,7 @@
-use Rattle.std.proofs.Common.{refl}
+use Rattle.std.proofs.Common.{refl, None}
+use Rattle.std.proofs.Common.{Some as some}
 use Rattle.x_decode.proofs.Cases.{told, neither, whole-not_short, some-instr, some-in_range, some-not_bad, none-instr, none-bad, cut-instr, cut-short, dead-instr, dead-not_short, dead-bad}
+use Rattle.x_decode.proofs.Computing.{whole-seen, whole-stays, dead-seen, dead-stays, few-seen, many-seen, many-stays}
 use Rattle.x_decode.proofs.decoding.decode.Goals as goal
 
 -- an instruction, and its row
@@ -59,3 +61,36 @@ returns-in-Dead-clause-short c = neither (λ e. cc) (dead-not_short c.args.bytes
 pub returns-in-Dead-clause-bad : goal.returns-in-Dead-clause-bad
 returns-in-Dead-clause-bad c =
     (λ e. dead-bad c.args.bytes.now (told c.in-Dead.ensures.whole c.in-Dead.ensures.short), λ h. refl)
+
+-- the computed answer, and that it stays
+pub returns-in-Some-clause-value : goal.returns-in-Some-clause-value
+returns-in-Some-clause-value c =
+    whole-seen c.args.bytes.now c.in-Whole.fields c.in-Whole.len (some c.in-Some.decoded) c.in-Whole.ensures.value c.in-Some.ensures.value
+
+pub returns-in-Some-clause-stays : goal.returns-in-Some-clause-stays
+returns-in-Some-clause-stays c =
+    λ not. whole-stays c.args.bytes.now c.in-Whole.fields c.in-Whole.len (some c.in-Some.decoded) (c.in-Whole.ensures.stays (λ e. cc)) c.in-Some.ensures.value
+
+pub returns-in-None-clause-value : goal.returns-in-None-clause-value
+returns-in-None-clause-value c =
+    whole-seen c.args.bytes.now c.in-Whole.fields c.in-Whole.len None c.in-Whole.ensures.value c.in-None.ensures.value
+
+pub returns-in-None-clause-stays : goal.returns-in-None-clause-stays
+returns-in-None-clause-stays c =
+    λ not. whole-stays c.args.bytes.now c.in-Whole.fields c.in-Whole.len None (c.in-Whole.ensures.stays (λ e. cc)) c.in-None.ensures.value
+
+pub returns-in-Short-clause-value : goal.returns-in-Short-clause-value
+returns-in-Short-clause-value c = few-seen c.args.bytes.now c.in-Short.ensures.value c.if-bytes-lt-LIMIT.true
+
+pub returns-in-Short-2-clause-value : goal.returns-in-Short-2-clause-value
+returns-in-Short-2-clause-value c = many-seen c.args.bytes.now c.in-Short-2.ensures.value c.if-bytes-lt-LIMIT.false
+
+pub returns-in-Short-2-clause-stays : goal.returns-in-Short-2-clause-stays
+returns-in-Short-2-clause-stays c =
+    λ not more. many-stays c.args.bytes.now more c.in-Short-2.ensures.value c.if-bytes-lt-LIMIT.false
+
+pub returns-in-Dead-clause-value : goal.returns-in-Dead-clause-value
+returns-in-Dead-clause-value c = dead-seen c.args.bytes.now c.in-Dead.ensures.value
+
+pub returns-in-Dead-clause-stays : goal.returns-in-Dead-clause-stays
+returns-in-Dead-clause-stays c = λ not. dead-stays c.args.bytes.now (c.in-Dead.ensures.stays (λ e. cc))

@@ -1,0 +1,4 @@
+pub mod Numbers
+pub mod Shifts
+pub mod Picks
+pub mod Bits

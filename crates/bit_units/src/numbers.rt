@@ -1,0 +1,85 @@
+//! Numbers of some width in bits, their bits, and the flags of a result.
+ghost use Rattle.std.specs.Prelude.{◌≡◌, ◌-◌, ◌%◌, ◌^◌, ◌<◌, ◌≤◌};
+ghost use Rattle.bit_units.specs.Numbers.{has_bit as has_bit_of, is_negative as is_negative_of, masked as masked_to, sign_and_zero as sign_and_zero_of, value_flags as flags_of_value};
+
+use gpr_flags::Flags;
+
+/// 2 to the power of `exponent`.
+pub(crate) fn power(exponent: u32) -> u128
+    requires { exponent < 128 }
+    ensures { result ≡ 2 ^ exponent }
+{
+    1 << exponent
+}
+
+/// The low bits of a number.
+#[tactic(auto, using(std::proofs::lemmas::Nat::and_mask))]
+pub(crate) fn low(width: u32, number: u128) -> u64
+    requires { width ≤ 64 }
+    ensures value { result ≡ number % 2 ^ width }
+    ensures fits { result < 2 ^ width }
+{
+    (number & (power(width) - 1)) as u64
+}
+
+/// The number of that width whose bits are all 1.
+pub(crate) fn ones(width: u32) -> u64
+    requires { width ≤ 64 }
+    ensures { result ≡ 2 ^ width - 1 }
+{
+    (power(width) - 1) as u64
+}
+
+/// Whether a bit is 1; the lowest has the place 0.
+pub(crate) fn has_bit(number: u64, place: u32) -> bool
+    requires { place < 64 }
+    ensures { result ≡ has_bit_of number place }
+{
+    (number >> place) % 2 == 1
+}
+
+/// The highest bit of a number of that width, its sign.
+pub(crate) fn is_negative(width: u32, number: u64) -> bool
+    requires some { 0 < width }
+    requires most { width ≤ 64 }
+    ensures { result ≡ is_negative_of width number }
+{
+    has_bit(number, width - 1)
+}
+
+/// A count's low five bits, or its low six for 64 bits.
+pub(crate) fn masked(width: u32, count: u64) -> u32
+    ensures value { result ≡ masked_to width count }
+    ensures small { result < 64 }
+{
+    if width == 64 {
+        (count % 64) as u32
+    } else {
+        (count % 32) as u32
+    }
+}
+
+/// The flags with SF and ZF of a result.
+pub(crate) fn sign_and_zero(width: u32, value: u64, f: Flags) -> Flags
+    requires some { 0 < width }
+    requires most { width ≤ 64 }
+    ensures { result ≡ sign_and_zero_of width value f }
+{
+    Flags {
+        zf: value == 0,
+        sf: is_negative(width, value),
+        ..f
+    }
+}
+
+/// The flags with SF, ZF and PF of a result.
+pub(crate) fn value_flags(width: u32, value: u64, f: Flags) -> Flags
+    requires some { 0 < width }
+    requires most { width ≤ 64 }
+    ensures { result ≡ flags_of_value width value f }
+{
+    Flags {
+        pf: (value % 256).count_ones() % 2 == 0,
+        ..sign_and_zero(width, value, f)
+    }
+}

@@ -1,0 +1,150 @@
+-- An instruction writes within its accesses alone.
+use Rattle.std.proofs.Common.{◌≡◌, ℕ, ◌+◌, ◌<◌, ◌≤◌, ◌⊎◌, inl, inr, Bool, true, false, cond, List, [], ◌∷◌, Option, Some, None, refl, slice_get, length}
+use Rattle.std.specs.List.{All}
+use Rattle.std.proofs.lemmas.List.Elements.{All-head, All-tail}
+use Rattle.byteorder.specs.Numbers.{length-bytes_low_first}
+use Rattle.machine_state.specs.declared.kinds.Kind.TheVariants.{Write}
+use Rattle.gpr_flags.specs.declared.kinds.Fault.{Fault}
+use Rattle.gpr_flags.specs.declared.kinds.Fault.TheVariants.{General}
+use Rattle.machine_state.specs.Memory.{bytes_at, written}
+use Rattle.machine_state.specs.State.{State}
+use Rattle.machine_state.proofs.MemoryLemmas.{length-bytes_at, written_below, written_above}
+use Rattle.row_table.specs.declared.kinds.Row.{Row}
+use Rattle.row_table.specs.declared.kinds.Decoded.{Decoded}
+use Rattle.row_table.specs.declared.operations.StringOp.{StringOp}
+use Rattle.row_table.specs.declared.operations.StringOp.TheVariants.{Movs, Cmps, Stos, Lods, Scas}
+use Rattle.row_table.specs.Rows.{rows}
+use Rattle.string_unit.specs.Strings.{reads, writes, string_accesses, string_byte}
+use Rattle.core_step.specs.declared.kinds.Size.{Size}
+use Rattle.core_step.specs.declared.kinds.Operand.{Operand}
+use Rattle.core_step.specs.declared.kinds.Operand.TheVariants.{Absent, Register, HighByte, Memory, Number}
+use Rattle.core_step.specs.declared.kinds.Use.{Use}
+use Rattle.core_step.specs.declared.kinds.Use.TheVariants.{Read as Reads, Write as Writes, Update}
+use Rattle.core_step.specs.declared.kinds.Instruction.{Instruction}
+use Rattle.core_step.specs.declared.kinds.Outcome.{Outcome}
+use Rattle.core_step.specs.declared.kinds.StringPlan.{StringPlan}
+use Rattle.core_step.specs.declared.kinds.PairPlan.{PairPlan}
+use Rattle.core_step.specs.declared.kinds.Plan.{Plan}
+use Rattle.core_step.specs.declared.kinds.Plan.TheVariants.{Plain, OnStrings, OnPair}
+use Rattle.string_unit.specs.declared.kinds.Access.{Access}
+use Rattle.core_step.specs.Size.{bytes_in, cut}
+use Rattle.core_step.specs.Operands.{use_of}
+use Rattle.core_step.specs.Strings.{is_over, source_of, destination_of, strings_access, passed_over, iterated, byte_iterated}
+use Rattle.core_step.specs.Pair.{pair_bytes, pair_write, pair_access, is_misaligned, is_equal, pair_at, pair_stored, byte_exchanged, pair_left}
+use Rattle.core_step.specs.Plan.{plan_of, plan_accesses}
+use Rattle.core_step.specs.Access.{operand_access, kind_of, accesses_of, first_fault}
+use Rattle.core_step.specs.Act.{number_for, bytes_of, byte_after, byte_left, outcome_in, trapped, done, plan_after, unless, performed_as, performed_row, performed}
+use Rattle.core_step.specs.Machine.{accesses, accesses_by, SparesByte, IsFramed}
+use Rattle.core_step.proofs.Parts.{All-destination}
+
+-- a number has as many bytes as its size says
+length-bytes_of : (size : Size) (number : ℕ) → length (bytes_of size number) ≡ bytes_in size
+length-bytes_of size number = length-bytes_low_first 0 (bytes_in size) (cut size number)
+
+-- bytes that are written change no byte before them or behind them
+written_outside : (byte : ℕ → ℕ) (addr len : ℕ) (bytes : List ℕ) (at : ℕ) → length bytes ≡ len → (at < addr) ⊎ (addr + len ≤ at)
+    → written byte addr bytes at ≡ byte at
+written_outside byte addr len bytes at count (inl below) = written_below byte addr bytes at below
+written_outside byte addr len bytes at count (inr above) = written_above byte addr bytes at (rw count above)
+
+-- an access of kind write that spares a byte lies below it or above it
+spared-write : (addr len at : ℕ) (rest : List Access) → All (SparesByte at) (record { kind = Write; addr = addr; len = len } ∷ rest)
+    → (at < addr) ⊎ (addr + len ≤ at)
+spared-write addr len at rest spared = All-head (SparesByte at) _ rest spared refl
+
+-- a number that goes to an operand changes no byte but those of its access
+byte_after-spared : (operand : Operand) (size : Size) (number : Option ℕ) (byte : ℕ → ℕ) (at : ℕ)
+    → All (SparesByte at) (operand_access Write operand size) → byte_after operand size number byte at ≡ byte at
+byte_after-spared operand size None byte at spared = refl
+byte_after-spared Absent size (Some number) byte at spared = refl
+byte_after-spared (Register to) size (Some number) byte at spared = refl
+byte_after-spared (HighByte to) size (Some number) byte at spared = refl
+byte_after-spared (Memory addr) size (Some number) byte at spared =
+    written_outside byte addr (bytes_in size) (bytes_of size number) at (length-bytes_of size number)
+    (spared-write addr (bytes_in size) at [] spared)
+byte_after-spared (Number to) size (Some number) byte at spared = refl
+
+-- a destination that is only read gets no number, and each other is accessed by a write
+number_for-spared : (use_of_it : Use) (operand : Operand) (size : Size) (number : Option ℕ) (byte : ℕ → ℕ) (at : ℕ)
+    → All (SparesByte at) (operand_access (kind_of use_of_it) operand size)
+    → byte_after operand size (number_for use_of_it number) byte at ≡ byte at
+number_for-spared Reads operand size number byte at spared = refl
+number_for-spared Writes operand size number byte at spared = byte_after-spared operand size number byte at spared
+number_for-spared Update operand size number byte at spared = byte_after-spared operand size number byte at spared
+
+-- an outcome changes no byte but those of the instruction's accesses
+byte_left-spared : (i : Instruction) (o : Outcome) (byte : ℕ → ℕ) (at : ℕ) → All (SparesByte at) (accesses_of i)
+    → byte_left i o byte at ≡ byte at
+unfolding byte_left
+byte_left-spared i o byte at spared =
+    number_for-spared (use_of i.op) i.destination i.size o.destination byte at (All-destination (SparesByte at) i spared)
+
+-- ---- strings
+-- an iteration changes no byte but those of its accesses
+string_byte-spared : (op : StringOp) (size source destination : ℕ) (gprs : List ℕ) (byte : ℕ → ℕ) (at : ℕ)
+    → All (SparesByte at) (string_accesses op size source destination) → string_byte op size source destination gprs byte at ≡ byte at
+unfolding string_byte string_accesses
+string_byte-spared Movs size source destination gprs byte at spared =
+    written_outside byte destination size (bytes_at byte source size) at (length-bytes_at byte source size)
+    (spared-write destination size at [] (All-tail (SparesByte at) (reads source size) (writes destination size ∷ []) spared))
+string_byte-spared Cmps size source destination gprs byte at spared = refl
+string_byte-spared Stos size source destination gprs byte at spared =
+    written_outside byte destination size _ at (length-bytes_low_first 0 size _) (spared-write destination size at [] spared)
+string_byte-spared Lods size source destination gprs byte at spared = refl
+string_byte-spared Scas size source destination gprs byte at spared = refl
+
+-- nor does a step without one
+strings-spared : (over : Bool) (i : StringPlan) (s : State) (at : ℕ)
+    → All (SparesByte at) (cond over [] (string_accesses i.op (bytes_in i.size) (source_of i s.gprs) (destination_of i s.gprs)))
+    → (cond over (passed_over i s) (iterated i s)).memory.byte at ≡ s.memory.byte at
+unfolding byte_iterated
+strings-spared true i s at spared = refl
+strings-spared false i s at spared =
+    string_byte-spared i.op (bytes_in i.size) (source_of i s.gprs) (destination_of i s.gprs) s.gprs s.memory.byte at spared
+
+-- ---- pairs
+-- an exchange changes no byte but those of its access
+pair_byte-spared : (equal : Bool) (i : PairPlan) (gprs : List ℕ) (byte : ℕ → ℕ) (at : ℕ)
+    → All (SparesByte at) (pair_write i ∷ []) → cond equal (pair_stored i gprs byte) byte at ≡ byte at
+pair_byte-spared true i gprs byte at spared =
+    written_outside byte i.addr (pair_bytes i) _ at (length-bytes_low_first 0 (pair_bytes i) _) (spared-write i.addr (pair_bytes i) at [] spared)
+pair_byte-spared false i gprs byte at spared = refl
+
+-- nor does a fault before it
+pair-spared : (misaligned : Bool) (i : PairPlan) (s : State) (at : ℕ) → All (SparesByte at) (cond misaligned [] (pair_write i ∷ []))
+    → (cond misaligned (trapped General s) (done (pair_left i s))).state.memory.byte at ≡ s.memory.byte at
+unfolding byte_exchanged
+pair-spared true i s at spared = refl
+pair-spared false i s at spared = pair_byte-spared (is_equal i.half (pair_at i s.memory.byte) s.gprs) i s.gprs s.memory.byte at spared
+
+-- ---- the whole
+-- where no access is refused
+plan-spared : (plan : Plan) (s : State) (at : ℕ) → All (SparesByte at) (plan_accesses plan s.gprs)
+    → (plan_after plan s).state.memory.byte at ≡ s.memory.byte at
+unfolding strings_access pair_access
+plan-spared (Plain i) s at spared = byte_left-spared i (outcome_in i s) s.memory.byte at spared
+plan-spared (OnStrings i) s at spared = strings-spared (is_over i s.gprs) i s at spared
+plan-spared (OnPair i) s at spared = pair-spared (is_misaligned i) i s at spared
+
+-- nor does a fault change any
+unless-spared : (fault : Option Fault) (plan : Plan) (s : State) (at : ℕ) → All (SparesByte at) (plan_accesses plan s.gprs)
+    → (unless fault plan s).state.memory.byte at ≡ s.memory.byte at
+unless-spared (Some fault) plan s at spared = refl
+unless-spared None plan s at spared = plan-spared plan s at spared
+
+-- the instruction of a row
+framed_as : (plan : Plan) (s : State) (at : ℕ) → All (SparesByte at) (plan_accesses plan s.gprs)
+    → (performed_as plan s).state.memory.byte at ≡ s.memory.byte at
+unfolding performed_as
+framed_as plan s at spared = unless-spared (first_fault s.memory.perms (plan_accesses plan s.gprs)) plan s at spared
+
+-- the same by the row, where there is one
+framed_row : (found : Option Row) (d : Decoded) (len : ℕ) (s : State) (at : ℕ) → All (SparesByte at) (accesses_by found d len s)
+    → (performed_row found d len s).state.memory.byte at ≡ s.memory.byte at
+framed_row (Some row) d len s at spared = framed_as (plan_of row d len s) s at spared
+framed_row None d len s at spared = refl
+
+-- an instruction writes within its accesses alone
+pub framed : (d : Decoded) (len : ℕ) (s : State) → IsFramed d len s
+unfolding accesses performed
+framed d len s = λ at spared. framed_row (slice_get rows d.row) d len s at spared

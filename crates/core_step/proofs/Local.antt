@@ -1,0 +1,353 @@
+-- An instruction depends on its accesses alone.
+use Rattle.std.proofs.Common.{◌≡◌, ℕ, ◌+◌, ◌-◌, ◌*◌, ◌/◌, ◌%◌, ◌^◌, ◌<◌, ◌≤◌, Bool, true, false, List, [], ◌∷◌, Option, Some, None, cond, zero, suc, refl, ap, ◌∙◌, arith, slice_get, slice_index, nat_lt, nat_le, ◌&&◌, length}
+use Rattle.std.specs.List.{All}
+use Rattle.std.proofs.lemmas.List.Elements.{All-head, All-tail}
+use Rattle.byteorder.specs.Endian.{little_number, little_bytes}
+use Rattle.machine_state.specs.declared.kinds.Kind.{Kind}
+use Rattle.machine_state.specs.declared.kinds.Kind.TheVariants.{Read}
+use Rattle.gpr_flags.specs.declared.kinds.Fault.{Fault}
+use Rattle.gpr_flags.specs.declared.kinds.Fault.TheVariants.{General}
+use Rattle.gpr_flags.specs.declared.kinds.Flags.{Flags}
+use Rattle.machine_state.specs.declared.kinds.Miss.{Miss}
+use Rattle.machine_state.specs.declared.kinds.Miss.TheVariants.{NonCanonical}
+use Rattle.machine_state.specs.Memory.{Permissions, Memory, is_noncanonical, miss_in, miss_at, or_else, first_miss, bytes_at, written}
+use Rattle.machine_state.specs.State.{State}
+use Rattle.machine_state.proofs.MemoryLemmas.{bytes_at_same}
+use Rattle.row_table.specs.declared.kinds.Row.{Row}
+use Rattle.row_table.specs.declared.kinds.Decoded.{Decoded}
+use Rattle.row_table.specs.declared.operations.Op.{Op}
+use Rattle.row_table.specs.declared.operations.Op.TheVariants.{Core, String}
+use Rattle.row_table.specs.declared.operations.CoreOp.{CoreOp}
+use Rattle.row_table.specs.declared.operations.CoreOp.TheVariants.{Cmpxchg8b}
+use Rattle.row_table.specs.declared.operations.StringOp.{StringOp}
+use Rattle.row_table.specs.declared.operations.StringOp.TheVariants.{Movs, Cmps, Stos, Lods, Scas}
+use Rattle.row_table.specs.Rows.{rows}
+use Rattle.string_unit.specs.Strings.{reads, writes, number_at, string_accesses, passed, loaded, compared, string_gprs, string_flags, string_byte}
+use Rattle.core_step.specs.declared.kinds.Size.{Size}
+use Rattle.core_step.specs.declared.kinds.Operand.{Operand}
+use Rattle.core_step.specs.declared.kinds.Operand.TheVariants.{Absent, Register, HighByte, Memory as InMemory, Number}
+use Rattle.core_step.specs.declared.kinds.Use.{Use}
+use Rattle.core_step.specs.declared.kinds.Use.TheVariants.{Read as Reads, Write as Writes, Update}
+use Rattle.core_step.specs.declared.kinds.Instruction.{Instruction}
+use Rattle.core_step.specs.declared.kinds.Outcome.{Outcome}
+use Rattle.core_step.specs.declared.kinds.StringPlan.{StringPlan}
+use Rattle.core_step.specs.declared.kinds.PairPlan.{PairPlan}
+use Rattle.core_step.specs.declared.kinds.Plan.{Plan}
+use Rattle.core_step.specs.declared.kinds.Plan.TheVariants.{Plain, OnStrings, OnPair}
+use Rattle.string_unit.specs.declared.kinds.Access.{Access}
+use Rattle.core_step.specs.Size.{bytes_in}
+use Rattle.core_step.specs.Operands.{use_of, instruction_of, instruction_as, destination_in, source_in, third_in}
+use Rattle.core_step.specs.Strings.{strings_of, count_in, is_over, source_of, destination_of, strings_access, with_count, is_continued, gprs_iterated, flags_iterated, byte_iterated, iterated, passed_over}
+use Rattle.core_step.specs.Pair.{pair_of, pair_write, pair_access, is_misaligned, is_equal, pair_at, pair_stored, byte_exchanged, exchanged, pair_left}
+use Rattle.core_step.specs.Plan.{next_of, core_plan, plan_by, plan_of, plan_accesses}
+use Rattle.core_step.specs.Access.{operand_access, kind_of, accesses_of, first_fault, fault_or}
+use Rattle.core_step.specs.Act.{value_of, old_value, bytes_of, byte_after, byte_left, destination_number, outcome_in, trapped, completed, done, plan_after, unless, performed_as, performed_row, performed, register_value}
+use Rattle.core_step.specs.Result.{outcome_of}
+use Rattle.core_step.specs.Machine.{accesses, accesses_by, AgreeOn, IsSame, IsLocal}
+use Rattle.core_step.proofs.Parts.{All-source, All-destination}
+
+-- ---- the fault
+-- why a byte can't be had depends on its page's permissions alone
+miss_at_same : (perms others : Permissions) (kind : Kind) (addr : ℕ) → perms (addr / 4096) ≡ others (addr / 4096)
+    → miss_at perms kind addr ≡ miss_at others kind addr
+miss_at_same perms others kind addr same =
+    ap (λ (page : Option ℕ). cond (is_noncanonical addr) (Some (NonCanonical addr)) (miss_in page kind addr)) same
+
+-- the first byte that isn't allowed depends on the permissions of the access's pages alone
+first_miss_same : (perms others : Permissions) (kind : Kind) (addr len : ℕ)
+    → ((at : ℕ) → addr ≤ at → at < addr + len → perms (at / 4096) ≡ others (at / 4096))
+    → first_miss perms kind addr len ≡ first_miss others kind addr len
+unfolding first_miss
+first_miss_same perms others kind addr zero same = refl
+first_miss_same perms others kind addr (suc len) same =
+    ap (λ (miss : Option Miss). or_else miss (first_miss perms kind (addr + 1) len))
+    (miss_at_same perms others kind addr (same addr (omega arith) (omega arith)))
+    ∙ ap (or_else (miss_at others kind addr))
+    (first_miss_same perms others kind (addr + 1) len (λ at low high. same at (omega arith) (omega arith)))
+
+-- where memories agree on an access, so does the first of its bytes that isn't allowed
+miss_same : (access : Access) (memory other : Memory) → AgreeOn memory other access
+    → first_miss memory.perms access.kind access.addr access.len ≡ first_miss other.perms access.kind access.addr access.len
+miss_same access memory other agree =
+    first_miss_same memory.perms other.perms access.kind access.addr access.len (λ at low high. (agree at low high).0)
+
+-- where memories agree along a list, its first fault is the same
+first_fault_same : (xs : List Access) (memory other : Memory) → All (AgreeOn memory other) xs
+    → first_fault memory.perms xs ≡ first_fault other.perms xs
+unfolding first_fault
+first_fault_same [] memory other agree = refl
+first_fault_same (x ∷ xs) memory other agree =
+    ap (λ (miss : Option Miss). fault_or x.kind miss (first_fault memory.perms xs))
+    (miss_same x memory other (All-head (AgreeOn memory other) x xs agree))
+    ∙ ap (fault_or x.kind (first_miss other.perms x.kind x.addr x.len))
+    (first_fault_same xs memory other (All-tail (AgreeOn memory other) x xs agree))
+
+-- ---- the numbers
+-- where memories agree on an access, its bytes are the same
+bytes_same : (access : Access) (memory other : Memory) → AgreeOn memory other access
+    → bytes_at memory.byte access.addr access.len ≡ bytes_at other.byte access.addr access.len
+bytes_same access memory other agree =
+    bytes_at_same memory.byte other.byte access.addr access.len (λ i inside. (agree (access.addr + i) (omega arith) (omega arith)).1)
+
+-- where memories agree on the access of an operand, its number is the same
+value_of_same : (kind : Kind) (operand : Operand) (size : Size) (gprs : List ℕ) (memory other : Memory)
+    → All (AgreeOn memory other) (operand_access kind operand size)
+    → value_of operand size gprs memory.byte ≡ value_of operand size gprs other.byte
+unfolding value_of
+value_of_same kind Absent size gprs memory other agree = refl
+value_of_same kind (Register number) size gprs memory other agree = refl
+value_of_same kind (HighByte number) size gprs memory other agree = refl
+value_of_same kind (InMemory addr) size gprs memory other agree =
+    let access : Access = record { kind = kind; addr = addr; len = bytes_in size } in
+    ap (little_number (bytes_in size)) (bytes_same access memory other (All-head (AgreeOn memory other) access [] agree))
+value_of_same kind (Number number) size gprs memory other agree = refl
+
+-- where memories agree on the access of a destination, what stood there is the same; it counts only where it is read
+old_value_same : (use_of_it : Use) (operand : Operand) (size : Size) (gprs : List ℕ) (memory other : Memory)
+    → All (AgreeOn memory other) (operand_access (kind_of use_of_it) operand size)
+    → old_value use_of_it operand size gprs memory.byte ≡ old_value use_of_it operand size gprs other.byte
+old_value_same Reads operand size gprs memory other agree = value_of_same _ operand size gprs memory other agree
+old_value_same Writes operand size gprs memory other agree = refl
+old_value_same Update operand size gprs memory other agree = value_of_same _ operand size gprs memory other agree
+
+-- ---- the bytes
+-- a write keeps each byte the same that was the same
+written_same : (byte other : ℕ → ℕ) (addr : ℕ) (bytes : List ℕ) (at : ℕ) → byte at ≡ other at
+    → written byte addr bytes at ≡ written other addr bytes at
+written_same byte other addr bytes at same =
+    ap (λ (old : ℕ). cond (nat_le addr at && nat_lt at (addr + length bytes)) (slice_index bytes (at - addr)) old) same
+
+-- a number that goes to an operand keeps each byte the same that was the same
+byte_after_same : (operand : Operand) (size : Size) (number : Option ℕ) (byte other : ℕ → ℕ) (at : ℕ) → byte at ≡ other at
+    → byte_after operand size number byte at ≡ byte_after operand size number other at
+byte_after_same operand size None byte other at same = same
+byte_after_same Absent size (Some number) byte other at same = same
+byte_after_same (Register to) size (Some number) byte other at same = same
+byte_after_same (HighByte to) size (Some number) byte other at same = same
+byte_after_same (InMemory addr) size (Some number) byte other at same = written_same byte other addr (bytes_of size number) at same
+byte_after_same (Number to) size (Some number) byte other at same = same
+
+-- an outcome keeps each byte the same that was the same
+byte_left_same : (i : Instruction) (o : Outcome) (byte other : ℕ → ℕ) (at : ℕ) → byte at ≡ other at
+    → byte_left i o byte at ≡ byte_left i o other at
+unfolding byte_left
+byte_left_same i o byte other at same = byte_after_same i.destination i.size (destination_number i o) byte other at same
+
+-- ---- the instruction
+-- a state with another memory
+abbrev with_memory : State → Memory → State
+with_memory s other = record s { memory = other }
+
+-- two memories agree along the accesses of an instruction
+abbrev AgreeFor : Instruction → State → Memory → Type 0
+AgreeFor i s other = All (AgreeOn s.memory other) (accesses_of i)
+
+-- where memories agree along the accesses of an instruction, the same comes of it
+outcome_same : (i : Instruction) (s : State) (other : Memory) → AgreeFor i s other → outcome_in i s ≡ outcome_in i (with_memory s other)
+outcome_same i s other agree =
+    ap (λ (a : ℕ).
+    outcome_of i a (value_of i.source i.source_size s.gprs s.memory.byte) (register_value i.third i.third_size s.gprs) s.flags s.steps)
+    (old_value_same (use_of i.op) i.destination i.size s.gprs s.memory other (All-destination (AgreeOn s.memory other) i agree))
+    ∙ ap (λ (b : ℕ).
+    outcome_of i (old_value (use_of i.op) i.destination i.size s.gprs other.byte) b (register_value i.third i.third_size s.gprs)
+    s.flags s.steps)
+    (value_of_same Read i.source i.source_size s.gprs s.memory other (All-source (AgreeOn s.memory other) i agree))
+
+-- an outcome leaves the same state but for memory
+completed_same : (i : Instruction) (o : Outcome) (s : State) (other : Memory)
+    → IsSame s.memory other (completed i o s) (completed i o (with_memory s other))
+completed_same i o s other = record {
+  acted = refl;
+  state = refl;
+  perms_stay = (refl, refl);
+  byte_is = λ at same. byte_left_same i o s.memory.byte other.byte at same;
+}
+
+-- where memories agree along the accesses of an instruction, it leaves the same
+plain_same : (i : Instruction) (s : State) (other : Memory) → AgreeFor i s other
+    → IsSame s.memory other (plan_after (Plain i) s) (plan_after (Plain i) (with_memory s other))
+plain_same i s other agree = rw (← outcome_same i s other agree) (completed_same i (outcome_in i s) s other)
+
+-- ---- strings
+-- where memories agree on an access, so does its number
+number_same : (access : Access) (rest : List Access) (memory other : Memory) → All (AgreeOn memory other) (access ∷ rest)
+    → number_at memory.byte access.addr access.len ≡ number_at other.byte access.addr access.len
+number_same access rest memory other agree =
+    ap (little_number access.len) (bytes_same access memory other (All-head (AgreeOn memory other) access rest agree))
+
+-- the registers after an iteration
+string_gprs_same : (op : StringOp) (size : ℕ) (wrap32 down : Bool) (source destination : ℕ) (gprs : List ℕ) (memory other : Memory)
+    → All (AgreeOn memory other) (string_accesses op size source destination)
+    → string_gprs op size wrap32 down source memory.byte gprs ≡ string_gprs op size wrap32 down source other.byte gprs
+unfolding string_gprs string_accesses
+string_gprs_same Movs size wrap32 down source destination gprs memory other agree = refl
+string_gprs_same Cmps size wrap32 down source destination gprs memory other agree = refl
+string_gprs_same Stos size wrap32 down source destination gprs memory other agree = refl
+string_gprs_same Lods size wrap32 down source destination gprs memory other agree =
+    ap (λ (number : ℕ). passed 6 size wrap32 down (loaded size number gprs)) (number_same (reads source size) [] memory other agree)
+string_gprs_same Scas size wrap32 down source destination gprs memory other agree = refl
+
+-- the flags after an iteration
+string_flags_same : (op : StringOp) (size source destination : ℕ) (gprs : List ℕ) (f : Flags) (memory other : Memory)
+    → All (AgreeOn memory other) (string_accesses op size source destination)
+    → string_flags op size source destination memory.byte gprs f ≡ string_flags op size source destination other.byte gprs f
+unfolding string_flags string_accesses
+string_flags_same Movs size source destination gprs f memory other agree = refl
+string_flags_same Cmps size source destination gprs f memory other agree =
+    ap (λ (a : ℕ). compared size a (number_at memory.byte destination size) f) (number_same (reads source size) (reads destination size ∷ []) memory other agree)
+    ∙ ap (λ (b : ℕ). compared size (number_at other.byte source size) b f)
+    (number_same (reads destination size) [] memory other (All-tail (AgreeOn memory other) (reads source size) (reads destination size ∷ []) agree))
+string_flags_same Stos size source destination gprs f memory other agree = refl
+string_flags_same Lods size source destination gprs f memory other agree = refl
+string_flags_same Scas size source destination gprs f memory other agree =
+    ap (λ (b : ℕ). compared size (slice_index gprs 0) b f) (number_same (reads destination size) [] memory other agree)
+
+-- a byte after an iteration
+string_byte_same : (op : StringOp) (size source destination : ℕ) (gprs : List ℕ) (memory other : Memory)
+    → All (AgreeOn memory other) (string_accesses op size source destination) → (at : ℕ) → memory.byte at ≡ other.byte at
+    → string_byte op size source destination gprs memory.byte at ≡ string_byte op size source destination gprs other.byte at
+unfolding string_byte string_accesses
+string_byte_same Movs size source destination gprs memory other agree at same =
+    ap (λ (bytes : List ℕ). written memory.byte destination bytes at)
+    (bytes_same (reads source size) memory other (All-head (AgreeOn memory other) (reads source size) (writes destination size ∷ []) agree))
+    ∙ written_same memory.byte other.byte destination (bytes_at other.byte source size) at same
+string_byte_same Cmps size source destination gprs memory other agree at same = same
+string_byte_same Stos size source destination gprs memory other agree at same =
+    written_same memory.byte other.byte destination (little_bytes size (slice_index gprs 0 % 2 ^ (8 * size))) at same
+string_byte_same Lods size source destination gprs memory other agree at same = same
+string_byte_same Scas size source destination gprs memory other agree at same = same
+
+-- the accesses of an iteration
+abbrev iteration : StringPlan → State → List Access
+iteration i s = string_accesses i.op (bytes_in i.size) (source_of i s.gprs) (destination_of i s.gprs)
+
+-- an iteration leaves the same
+iterated_same : (i : StringPlan) (s : State) (other : Memory) → gprs_iterated i s ≡ gprs_iterated i (with_memory s other)
+    → flags_iterated i s ≡ flags_iterated i (with_memory s other)
+    → ((at : ℕ) → s.memory.byte at ≡ other.byte at → byte_iterated i s at ≡ byte_iterated i (with_memory s other) at)
+    → IsSame s.memory other (done (iterated i s)) (done (iterated i (with_memory s other)))
+iterated_same i s other gprs flags byte = record {
+  acted = refl;
+  state = λ k. record s {
+    gprs = gprs k;
+    flags = flags k;
+    rip = cond (is_continued i (count_in i s.gprs) (flags k)) s.rip i.next;
+    steps = s.steps + 1;
+    memory = record other { byte = byte_iterated i (with_memory s other) };
+  };
+  perms_stay = (refl, refl);
+  byte_is = byte;
+}
+
+-- and so does a step without one
+strings_same : (over : Bool) (i : StringPlan) (s : State) (other : Memory) → All (AgreeOn s.memory other) (cond over [] (iteration i s))
+    → IsSame s.memory other (done (cond over (passed_over i s) (iterated i s)))
+    (done (cond over (passed_over i (with_memory s other)) (iterated i (with_memory s other))))
+unfolding gprs_iterated flags_iterated byte_iterated
+strings_same true i s other agree = record { acted = refl; state = refl; perms_stay = (refl, refl); byte_is = λ at same. same }
+strings_same false i s other agree =
+    iterated_same i s other
+    (ap (with_count i (count_in i s.gprs))
+    (string_gprs_same i.op (bytes_in i.size) i.wrap32 s.flags.df (source_of i s.gprs) (destination_of i s.gprs) s.gprs s.memory other agree))
+    (string_flags_same i.op (bytes_in i.size) (source_of i s.gprs) (destination_of i s.gprs) s.gprs s.flags s.memory other agree)
+    (string_byte_same i.op (bytes_in i.size) (source_of i s.gprs) (destination_of i s.gprs) s.gprs s.memory other agree)
+
+-- ---- pairs
+-- a byte after an exchange
+pair_byte_same : (equal : Bool) (i : PairPlan) (gprs : List ℕ) (byte other : ℕ → ℕ) (at : ℕ) → byte at ≡ other at
+    → cond equal (pair_stored i gprs byte) byte at ≡ cond equal (pair_stored i gprs other) other at
+pair_byte_same true i gprs byte other at same = written_same byte other i.addr _ at same
+pair_byte_same false i gprs byte other at same = same
+
+-- an exchange leaves the same
+exchanged_same : (i : PairPlan) (found : ℕ) (s : State) (other : Memory)
+    → IsSame s.memory other (done (exchanged i found s)) (done (exchanged i found (with_memory s other)))
+unfolding byte_exchanged
+exchanged_same i found s other = record {
+  acted = refl;
+  state = refl;
+  perms_stay = (refl, refl);
+  byte_is = λ at same. pair_byte_same (is_equal i.half found s.gprs) i s.gprs s.memory.byte other.byte at same;
+}
+
+-- and so does a fault before it
+pair_same : (misaligned : Bool) (i : PairPlan) (s : State) (other : Memory)
+    → All (AgreeOn s.memory other) (cond misaligned [] (pair_write i ∷ []))
+    → IsSame s.memory other (cond misaligned (trapped General s) (done (pair_left i s)))
+    (cond misaligned (trapped General (with_memory s other)) (done (pair_left i (with_memory s other))))
+unfolding pair_at
+pair_same true i s other agree = record { acted = refl; state = refl; perms_stay = (refl, refl); byte_is = λ at same. same }
+pair_same false i s other agree = rw (← number_same (pair_write i) [] s.memory other agree) (exchanged_same i (pair_at i s.memory.byte) s other)
+
+-- ---- the whole
+-- two memories agree along the accesses of a plan
+abbrev AgreeAlong : Plan → State → Memory → Type 0
+AgreeAlong plan s other = All (AgreeOn s.memory other) (plan_accesses plan s.gprs)
+
+-- where no access is refused
+plan_same : (plan : Plan) (s : State) (other : Memory) → AgreeAlong plan s other
+    → IsSame s.memory other (plan_after plan s) (plan_after plan (with_memory s other))
+unfolding strings_access pair_access
+plan_same (Plain i) s other agree = plain_same i s other agree
+plan_same (OnStrings i) s other agree = strings_same (is_over i s.gprs) i s other agree
+plan_same (OnPair i) s other agree = pair_same (is_misaligned i) i s other agree
+
+-- and where one may be
+unless_same : (fault : Option Fault) (plan : Plan) (s : State) (other : Memory) → AgreeAlong plan s other
+    → IsSame s.memory other (unless fault plan s) (unless fault plan (with_memory s other))
+unless_same (Some fault) plan s other agree = record { acted = refl; state = refl; perms_stay = (refl, refl); byte_is = λ at same. same }
+unless_same None plan s other agree = plan_same plan s other agree
+
+-- an instruction performed over memories that agree along its accesses
+performed_as_same : (plan : Plan) (s : State) (other : Memory) → AgreeAlong plan s other
+    → IsSame s.memory other (performed_as plan s) (performed_as plan (with_memory s other))
+unfolding performed_as
+performed_as_same plan s other agree =
+    rw (← first_fault_same (plan_accesses plan s.gprs) s.memory other agree)
+    (unless_same (first_fault s.memory.perms (plan_accesses plan s.gprs)) plan s other agree)
+
+-- the operands of an instruction don't depend on memory
+instruction_same : (row : Row) (d : Decoded) (len : ℕ) (s : State) (other : Memory)
+    → instruction_of row d len (with_memory s other) ≡ instruction_of row d len s
+unfolding instruction_of instruction_as destination_in source_in third_in
+instruction_same row d len s other = refl
+
+pair_of_same : (row : Row) (d : Decoded) (next : ℕ) (s : State) (other : Memory)
+    → pair_of row d next (with_memory s other) ≡ pair_of row d next s
+unfolding pair_of
+pair_of_same row d next s other = refl
+
+strings_of_same : (op : StringOp) (row : Row) (d : Decoded) (next : ℕ) (s : State) (other : Memory)
+    → strings_of op row d next (with_memory s other) ≡ strings_of op row d next s
+unfolding strings_of
+strings_of_same op row d next s other = refl
+
+core_plan_same : (op : CoreOp) (row : Row) (d : Decoded) (len : ℕ) (s : State) (other : Memory)
+    → core_plan op row d len (with_memory s other) ≡ core_plan op row d len s
+unfolding core_plan
+core_plan_same Cmpxchg8b row d len s other = ap OnPair (pair_of_same row d (next_of len s) s other)
+core_plan_same op row d len s other = ap Plain (instruction_same row d len s other)
+
+plan_by_same : (op : Op) (row : Row) (d : Decoded) (len : ℕ) (s : State) (other : Memory)
+    → plan_by op row d len (with_memory s other) ≡ plan_by op row d len s
+plan_by_same (String op) row d len s other = ap OnStrings (strings_of_same op row d (next_of len s) s other)
+plan_by_same (Core op) row d len s other = core_plan_same op row d len s other
+plan_by_same op row d len s other = ap Plain (instruction_same row d len s other)
+
+plan_of_same : (row : Row) (d : Decoded) (len : ℕ) (s : State) (other : Memory)
+    → plan_of row d len (with_memory s other) ≡ plan_of row d len s
+unfolding plan_of
+plan_of_same row d len s other = plan_by_same row.op row d len s other
+
+-- the same by the row, where there is one
+local_row : (found : Option Row) (d : Decoded) (len : ℕ) (s : State) (other : Memory)
+    → All (AgreeOn s.memory other) (accesses_by found d len s)
+    → IsSame s.memory other (performed_row found d len s) (performed_row found d len (with_memory s other))
+local_row (Some row) d len s other agree =
+    rw (plan_of_same row d len s other) (performed_as_same (plan_of row d len s) s other agree)
+local_row None d len s other agree = record { acted = refl; state = refl; perms_stay = (refl, refl); byte_is = λ at same. same }
+
+-- an instruction over memories that agree along its accesses gives the same
+pub local : (d : Decoded) (len : ℕ) (s : State) → IsLocal d len s
+unfolding accesses performed
+local d len s = λ other agree. local_row (slice_get rows d.row) d len s other agree

@@ -1,0 +1,40 @@
+use Rattle.std.proofs.Common.{◌≡◌, None, refl, ap, ◌∙◌, sym, subst}
+use Rattle.guest_pages.specs.Table.{perms_in}
+use Rattle.guest_pages.specs.Pages.{table_of, byte_of, memory_of}
+use Rattle.core_step.specs.declared.kinds.Use.{Use}
+use Rattle.core_step.specs.Access.{operand_access, walk, kind_of}
+use Rattle.core_step.specs.Operands.{use_of}
+use Rattle.core_step.specs.Act.{old_value, value_of, register_value, outcome_in}
+use Rattle.core_step.specs.Result.{outcome_of}
+use Rattle.core_step.specs.Machine.{state_of}
+use Rattle.core_step.proofs.Walks.{both-free}
+use Rattle.core_step.proofs.Steps.{after-is, kept-is}
+use Rattle.core_step.proofs.machine.Machine.complete.Goals as goal
+
+pub old_value-a-requires-clause-ready : goal.old_value-a-requires-clause-ready
+old_value-a-requires-clause-ready c =
+    let P : Use → Type 0 = λ u. walk (table_of c.args.self.now.pages) (operand_access (kind_of u) c.args.i.now.destination c.args.i.now.size) ≡ None in
+    subst P (sym c.destination_use-use_of_it.ensures) (both-free _ _ c.requires.ready).1
+
+pub value-b-requires-clause-ready : goal.value-b-requires-clause-ready
+value-b-requires-clause-ready c = (both-free _ _ c.requires.ready).0
+
+pub returns-clause-after : goal.returns-clause-after
+unfolding memory_of
+returns-clause-after c w =
+    let old = c.args.self.now in
+    let i = c.args.i.now in
+    let a : c.old_value-a.result ≡ old_value (use_of i.op) i.destination i.size old.gprs (byte_of old.pages w) =
+    c.old_value-a.ensures.value w
+    ∙ ap (λ (u : Use). old_value u i.destination i.size old.gprs (byte_of old.pages w)) c.destination_use-use_of_it.ensures in
+    let b : c.value-b.result ≡ value_of i.source i.source_size old.gprs (byte_of old.pages w) = c.value-b.ensures.value w in
+    let third : c.register_value-c.result ≡ register_value i.third i.third_size old.gprs = c.register_value-c.ensures.value in
+    after-is i c.outcome-outcome.result (outcome_in i (state_of old w)) (state_of old w) (state_of c.leave.new.self w)
+    (c.outcome-outcome.ensures.outcome ∙ (λ k. outcome_of i (a k) (b k) (third k) old.flags old.steps)) c.leave.ensures.gprs
+    c.leave.ensures.flags c.leave.ensures.rip refl refl refl c.leave.ensures.steps (ap perms_in c.leave.ensures.pages.table)
+    (c.leave.ensures.byte w)
+
+pub returns-clause-kept : goal.returns-clause-kept
+returns-clause-kept c =
+    kept-is c.outcome-outcome.result.acted c.args.i.now c.outcome-outcome.result c.args.self.now c.leave.new.self
+    c.outcome-outcome.ensures.fits c.leave.ensures.gprs c.leave.ensures.flags refl c.leave.ensures.steps c.leave.ensures.unwritten

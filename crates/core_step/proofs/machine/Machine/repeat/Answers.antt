@@ -1,0 +1,22 @@
+use Rattle.std.proofs.Common.{◌≡◌, refl, ap, ◌∙◌, cond}
+use Rattle.guest_pages.specs.Table.{perms_in}
+use Rattle.guest_pages.specs.Pages.{table_of, byte_of, memory_of}
+use Rattle.core_step.specs.declared.machine.Machine.{Machine}
+use Rattle.core_step.specs.Strings.{with_count, is_continued, gprs_iterated, flags_iterated, byte_iterated}
+use Rattle.core_step.proofs.Steps.{state-is}
+use Rattle.core_step.proofs.machine.Machine.repeat.Goals as goal
+
+pub returns-clause-state : goal.returns-clause-state
+unfolding memory_of gprs_iterated flags_iterated byte_iterated
+returns-clause-state c w =
+    let i = c.args.i.now in
+    let old = c.args.self.now in
+    state-is _ _
+    (ap (λ (m : Machine). m.gprs) c.move_on.ensures ∙ c.lower_count.ensures
+    ∙ (λ k. with_count i (c.count-count.ensures k) (c.iterate_once.ensures.gprs w k)))
+    (ap (λ (m : Machine). m.flags) c.move_on.ensures ∙ c.iterate_once.ensures.flags w)
+    (ap (λ (m : Machine). m.rip) c.move_on.ensures ∙ c.rip_after-rip.ensures
+    ∙ (λ k. cond (is_continued i (c.count-count.ensures k) (c.iterate_once.ensures.flags w k)) old.rip i.next))
+    refl refl refl (ap (λ (m : Machine). m.steps) c.move_on.ensures)
+    (ap (λ (m : Machine). perms_in (table_of m.pages)) c.move_on.ensures ∙ ap perms_in c.iterate_once.ensures.table.table)
+    (ap (λ (m : Machine). byte_of m.pages w) c.move_on.ensures ∙ c.iterate_once.ensures.byte w)

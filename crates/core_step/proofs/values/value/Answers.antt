@@ -1,0 +1,11 @@
+use Rattle.std.proofs.Common.{◌≡◌, None, subst}
+use Rattle.guest_pages.specs.Pages.{table_of}
+use Rattle.core_step.specs.declared.kinds.Operand.{Operand}
+use Rattle.core_step.specs.Access.{operand_access, walk}
+use Rattle.core_step.proofs.Walks.{free-memory}
+use Rattle.core_step.proofs.values.value.Goals as goal
+
+pub load-requires : goal.load-requires
+load-requires c =
+    let P : Operand → Type 0 = λ o. walk (table_of c.args.pages.now) (operand_access c.args.kind o c.args.size) ≡ None in
+    free-memory _ _ _ _ (subst P c.in-Memory.is c.requires.ready)

@@ -1,0 +1,96 @@
+-- CMPXCHG8B and CMPXCHG16B (SDM volume 2, CMPXCHG8B/CMPXCHG16B).
+use Rattle.std.specs.Prelude.{ℕ, ◌+◌, ◌*◌, ◌/◌, ◌%◌, ◌^◌, ◌==◌, Bool, true, false, not, ◌&&◌, if◌then◌else◌, List, [], ◌∷◌, slice_index, slice_set}
+use Rattle.byteorder.specs.Endian.{little_bytes}
+use Rattle.machine_state.specs.declared.kinds.Kind.TheVariants.{Write}
+use Rattle.machine_state.specs.Memory.{written}
+use Rattle.machine_state.specs.State.{State}
+use Rattle.row_table.specs.declared.kinds.Row.{Row}
+use Rattle.row_table.specs.declared.kinds.Decoded.{Decoded}
+use Rattle.row_table.specs.declared.operations.Op.TheVariants.{Core}
+use Rattle.row_table.specs.declared.operations.CoreOp.TheVariants.{Cmpxchg8b}
+use Rattle.string_unit.specs.declared.kinds.Access.{Access}
+use Rattle.string_unit.specs.Strings.{number_at}
+use Rattle.core_step.specs.declared.kinds.Size.{Size}
+use Rattle.core_step.specs.declared.kinds.Size.TheVariants.{Byte, Word, Double, Quad}
+use Rattle.core_step.specs.declared.kinds.PairPlan.{PairPlan}
+use Rattle.core_step.specs.Size.{bytes_in, bits_in, cut, register_with}
+use Rattle.core_step.specs.Address.{address_of}
+use Rattle.core_step.specs.Operands.{bases_for}
+
+-- the size of each half: 32 bits, or 64 in the row of 128
+abbrev pub half_in : Row → Size
+half_in row = if row.width == 64 then Double else Quad
+
+-- the instruction of a row and its fields
+unfoldable pub pair_of : Row → Decoded → (next : ℕ) → State → PairPlan
+pair_of row d next s = record {
+  half = half_in row;
+  addr = address_of d.fields d.disp s.gprs (bases_for (Core Cmpxchg8b) (half_in row) s next);
+  next = next;
+}
+
+-- the bytes of both halves
+abbrev pub pair_bytes : PairPlan → ℕ
+pair_bytes i = 2 * bytes_in i.half
+
+-- sixteen bytes have to lie at a multiple of 16
+abbrev pub is_quad : Size → Bool
+is_quad Quad = true
+is_quad Byte = false
+is_quad Word = false
+is_quad Double = false
+
+abbrev pub is_misaligned : PairPlan → Bool
+is_misaligned i = is_quad i.half && not (i.addr % 16 == 0)
+
+abbrev pub pair_write : PairPlan → Access
+pair_write i = record { kind = Write; addr = i.addr; len = pair_bytes i }
+
+-- the access list: where the place is wrong nothing is accessed
+unfoldable pub pair_access : PairPlan → List Access
+pair_access i = if is_misaligned i then [] else pair_write i ∷ []
+
+-- ---- what comes of it
+-- two registers' parts of this size as one number
+abbrev pub joined : Size → (high low : ℕ) → ℕ
+joined half high low = cut half high * 2 ^ bits_in half + cut half low
+
+-- what stands in memory
+unfoldable pub pair_at : PairPlan → (ℕ → ℕ) → ℕ
+pair_at i byte = number_at byte i.addr (pair_bytes i)
+
+-- whether that is rdx and rax
+abbrev pub is_equal : Size → (found : ℕ) → List ℕ → Bool
+is_equal half found gprs = found == joined half (slice_index gprs 2) (slice_index gprs 0)
+
+-- the registers with a number in one of them
+abbrev pub put_in : (to : ℕ) → Size → (number : ℕ) → List ℕ → List ℕ
+put_in to size number gprs = slice_set gprs to (register_with size (slice_index gprs to) number)
+
+-- the registers with the two halves of a number in rdx and rax
+abbrev pub pair_loaded : Size → (found : ℕ) → List ℕ → List ℕ
+pair_loaded half found gprs = put_in 2 half (cut half (found / 2 ^ bits_in half)) (put_in 0 half (cut half found) gprs)
+
+-- what goes to memory: rcx and rbx
+abbrev pub pair_stored : PairPlan → List ℕ → (ℕ → ℕ) → ℕ → ℕ
+pair_stored i gprs byte =
+    written byte i.addr (little_bytes (pair_bytes i) (joined i.half (slice_index gprs 1) (slice_index gprs 3)))
+
+unfoldable pub gprs_exchanged : PairPlan → (found : ℕ) → List ℕ → List ℕ
+gprs_exchanged i found gprs = if is_equal i.half found gprs then gprs else pair_loaded i.half found gprs
+
+unfoldable pub byte_exchanged : PairPlan → (found : ℕ) → List ℕ → (ℕ → ℕ) → ℕ → ℕ
+byte_exchanged i found gprs byte = if is_equal i.half found gprs then pair_stored i gprs byte else byte
+
+-- the state afterwards, by what stood in memory
+abbrev pub exchanged : PairPlan → (found : ℕ) → State → State
+exchanged i found s = record s {
+  gprs = gprs_exchanged i found s.gprs;
+  flags = record s.flags { zf = is_equal i.half found s.gprs };
+  rip = i.next;
+  steps = s.steps + 1;
+  memory = record s.memory { byte = byte_exchanged i found s.gprs s.memory.byte };
+}
+
+abbrev pub pair_left : PairPlan → State → State
+pair_left i s = exchanged i (pair_at i s.memory.byte) s

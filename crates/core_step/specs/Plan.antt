@@ -1,0 +1,39 @@
+-- The three ways in which instructions are performed, and what is accessed in each.
+use Rattle.std.specs.Prelude.{ℕ, ◌+◌, ◌%◌, ◌^◌, List}
+use Rattle.row_table.specs.declared.kinds.Row.{Row}
+use Rattle.row_table.specs.declared.kinds.Decoded.{Decoded}
+use Rattle.row_table.specs.declared.operations.Op.{Op}
+use Rattle.row_table.specs.declared.operations.Op.TheVariants.{Core, String}
+use Rattle.row_table.specs.declared.operations.CoreOp.{CoreOp}
+use Rattle.row_table.specs.declared.operations.CoreOp.TheVariants.{Cmpxchg8b}
+use Rattle.machine_state.specs.State.{State}
+use Rattle.string_unit.specs.declared.kinds.Access.{Access}
+use Rattle.core_step.specs.declared.kinds.Plan.{Plan}
+use Rattle.core_step.specs.declared.kinds.Plan.TheVariants.{Plain, OnStrings, OnPair}
+use Rattle.core_step.specs.Operands.{instruction_of}
+use Rattle.core_step.specs.Access.{accesses_of}
+use Rattle.core_step.specs.Strings.{strings_of, strings_access}
+use Rattle.core_step.specs.Pair.{pair_of, pair_access}
+
+-- where the next instruction stands
+abbrev pub next_of : (len : ℕ) → State → ℕ
+next_of len s = (s.rip + len) % 2 ^ 64
+
+unfoldable pub core_plan : CoreOp → Row → Decoded → (len : ℕ) → State → Plan
+core_plan Cmpxchg8b row d len s = OnPair (pair_of row d (next_of len s) s)
+core_plan op row d len s = Plain (instruction_of row d len s)
+
+abbrev pub plan_by : Op → Row → Decoded → (len : ℕ) → State → Plan
+plan_by (String op) row d len s = OnStrings (strings_of op row d (next_of len s) s)
+plan_by (Core op) row d len s = core_plan op row d len s
+plan_by op row d len s = Plain (instruction_of row d len s)
+
+-- the instruction of a row and its fields, by the row's operation
+unfoldable pub plan_of : Row → Decoded → (len : ℕ) → State → Plan
+plan_of row d len s = plan_by row.op row d len s
+
+-- the access list, by the registers before
+abbrev pub plan_accesses : Plan → List ℕ → List Access
+plan_accesses (Plain i) gprs = accesses_of i
+plan_accesses (OnStrings i) gprs = strings_access i gprs
+plan_accesses (OnPair i) gprs = pair_access i

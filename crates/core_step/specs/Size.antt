@@ -1,0 +1,47 @@
+-- Numbers of an operand's size, and the parts of general registers.
+use Rattle.std.specs.Prelude.{ℕ, ◌+◌, ◌-◌, ◌*◌, ◌/◌, ◌%◌, ◌^◌, Bool, nat_le, if◌then◌else◌}
+use Rattle.core_step.specs.declared.kinds.Size.{Size}
+use Rattle.core_step.specs.declared.kinds.Size.TheVariants.{Byte, Word, Double, Quad}
+
+abbrev pub bytes_in : Size → ℕ
+bytes_in Byte = 1
+bytes_in Word = 2
+bytes_in Double = 4
+bytes_in Quad = 8
+
+abbrev pub bits_in : Size → ℕ
+bits_in Byte = 8
+bits_in Word = 16
+bits_in Double = 32
+bits_in Quad = 64
+
+-- the low bits of a number, as many as the size has
+abbrev pub cut : Size → ℕ → ℕ
+cut size number = number % 2 ^ bits_in size
+
+-- whether the highest bit of a number of that size is 1
+abbrev pub is_negative : Size → ℕ → Bool
+is_negative size number = nat_le (2 ^ (bits_in size - 1)) number
+
+-- a number of that size at 64 bits, with its sign (SDM volume 1, 7.3.1.5)
+abbrev pub sign_extended : Size → ℕ → ℕ
+sign_extended size number = if is_negative size number then 2 ^ 64 - 2 ^ bits_in size + number else number
+
+-- the size that has half as many bits; a byte has none
+abbrev pub half_of : Size → Size
+half_of Byte = Byte
+half_of Word = Byte
+half_of Double = Word
+half_of Quad = Double
+
+-- a register where a number of some size was written to it: 8 and 16 bits leave the others, 32 bits clear the upper half
+-- (SDM volume 1, 3.4.1.1)
+abbrev pub register_with : Size → ℕ → ℕ → ℕ
+register_with Byte old number = old / 2 ^ 8 * 2 ^ 8 + number % 2 ^ 8
+register_with Word old number = old / 2 ^ 16 * 2 ^ 16 + number % 2 ^ 16
+register_with Double old number = number % 2 ^ 32
+register_with Quad old number = number % 2 ^ 64
+
+-- a register with other bits 8 to 15
+abbrev pub with_high_byte : ℕ → ℕ → ℕ
+with_high_byte old number = old / 2 ^ 16 * 2 ^ 16 + number % 2 ^ 8 * 2 ^ 8 + old % 2 ^ 8

@@ -1,0 +1,148 @@
+//! CMPXCHG8B and CMPXCHG16B.
+ghost use Rattle.std.specs.Prelude.{◌≡◌, ◌*◌, ◌/◌, ◌<◌, ◌≤◌, ◌^◌, None};
+ghost use Rattle.machine_state.specs.Memory.{Swap};
+ghost use Rattle.guest_pages.specs.Table.{blocked};
+ghost use Rattle.guest_pages.specs.Pages.{table_of, byte_of};
+ghost use Rattle.guest_pages.specs.Changes.{KeepsTable};
+ghost use Rattle.core_step.specs.Size.{bits_in, bytes_in, cut};
+ghost use Rattle.core_step.specs.Pair.{half_in, pair_bytes, is_misaligned as is_misaligned_by, joined as joined_of, pair_at, is_equal as is_equal_by, pair_loaded, pair_stored, gprs_exchanged, byte_exchanged};
+
+use crate::kinds::{Operand, PairPlan, Size};
+use crate::values::set_register;
+use byteorder::{ByteOrder, LittleEndian};
+use gpr_flags::Gprs;
+use guest_pages::Pages;
+use machine_state::Kind;
+use row_table::Row;
+
+/// The size of each half.
+pub(crate) fn half(row: &Row) -> Size
+    ensures { result ≡ half_in row.now }
+{
+    if row.width == 64 {
+        Size::Double
+    } else {
+        Size::Quad
+    }
+}
+
+/// How many bytes both halves have.
+pub(crate) fn pair_len(i: &PairPlan) -> usize
+    ensures value { result ≡ pair_bytes i.now }
+    ensures most { result ≤ 16 }
+{
+    2 * i.half.bytes() as usize
+}
+
+/// Whether sixteen bytes don't lie at a multiple of 16.
+pub(crate) fn is_misaligned(i: &PairPlan) -> bool
+    ensures { result ≡ is_misaligned_by i.now }
+{
+    i.half == Size::Quad && i.addr % 16 != 0
+}
+
+/// The low parts of two numbers as one number.
+fn joined(half: Size, high: u64, low: u64) -> u128
+    ensures value { result ≡ joined_of half high low }
+    ensures fits { result < 256 ^ (2 * bytes_in half) }
+{
+    let high = half.cut(high) as u128;
+    let low = half.cut(low) as u128;
+    match half {
+        Size::Byte => high * 0x100 + low,
+        Size::Word => high * 0x1_0000 + low,
+        Size::Double => high * 0x1_0000_0000 + low,
+        Size::Quad => high * 0x1_0000_0000_0000_0000 + low,
+    }
+}
+
+/// The low half of a number.
+fn low_half(half: Size, number: u128) -> u64
+    ensures { result ≡ cut half number }
+{
+    match half {
+        Size::Byte => (number % 0x100) as u64,
+        Size::Word => (number % 0x1_0000) as u64,
+        Size::Double => (number % 0x1_0000_0000) as u64,
+        Size::Quad => (number % 0x1_0000_0000_0000_0000) as u64,
+    }
+}
+
+/// The half above it.
+fn high_half(half: Size, number: u128) -> u64
+    ensures { result ≡ cut half (number / 2 ^ bits_in half) }
+{
+    match half {
+        Size::Byte => low_half(half, number / 0x100),
+        Size::Word => low_half(half, number / 0x1_0000),
+        Size::Double => low_half(half, number / 0x1_0000_0000),
+        Size::Quad => low_half(half, number / 0x1_0000_0000_0000_0000),
+    }
+}
+
+/// What stands in memory, which can be written.
+#[tactic(auto, unfolding(crate::specs::Pair::pair_at))]
+pub(crate) fn load(i: &PairPlan, pages: &Pages) -> u128
+    requires { blocked (table_of pages.now) Kind.Write i.now.addr (pair_bytes i.now) ≡ None }
+    ensures { (w : Swap) → result ≡ pair_at i.now (byte_of pages.now w) }
+{
+    let mut bytes = [0; 16];
+    let len = pair_len(i);
+    match pages.read(i.addr, &mut bytes[..len], Kind::Write) {
+        Ok(()) => LittleEndian::read_uint128(&bytes, len),
+        Err(_) => unreachable!(),
+    }
+}
+
+/// Whether a number is what stands in rdx and rax.
+pub(crate) fn is_equal(half: Size, found: u128, gprs: &Gprs) -> bool
+    ensures { result ≡ is_equal_by half found gprs.now }
+{
+    found == joined(half, gprs.get(2), gprs.get(0))
+}
+
+/// Puts rcx and rbx into memory, which can be written.
+fn store(i: &PairPlan, gprs: &Gprs, pages: &mut Pages)
+    requires { blocked (table_of pages.old) Kind.Write i.now.addr (pair_bytes i.now) ≡ None }
+    ensures byte { (w : Swap) → byte_of pages.new w ≡ pair_stored i.now gprs.now (byte_of pages.old w) }
+    ensures table { KeepsTable pages.old pages.new }
+{
+    let mut bytes = [0; 16];
+    let len = pair_len(i);
+    let number = joined(i.half, gprs.get(1), gprs.get(3));
+    LittleEndian::write_uint128(&mut bytes, number, len);
+    match pages.write(i.addr, &bytes[..len]) {
+        Ok(()) => {}
+        Err(_) => unreachable!(),
+    }
+}
+
+/// Puts rcx and rbx into memory where what stood there is what stands in rdx and rax.
+#[tactic(auto, unfolding(crate::specs::Pair::byte_exchanged))]
+pub(crate) fn exchange_memory(i: &PairPlan, found: u128, gprs: &Gprs, pages: &mut Pages)
+    requires { blocked (table_of pages.old) Kind.Write i.now.addr (pair_bytes i.now) ≡ None }
+    ensures byte { (w : Swap) → byte_of pages.new w ≡ byte_exchanged i.now found gprs.now (byte_of pages.old w) }
+    ensures table { KeepsTable pages.old pages.new }
+{
+    if is_equal(i.half, found, gprs) {
+        store(i, gprs, pages);
+    }
+}
+
+/// Puts what stood in memory into rdx and rax.
+fn load_registers(half: Size, found: u128, gprs: &mut Gprs)
+    ensures { gprs.new ≡ pair_loaded half found gprs.old }
+{
+    set_register(gprs, Operand::Register(0), half, low_half(half, found));
+    set_register(gprs, Operand::Register(2), half, high_half(half, found));
+}
+
+/// Puts what stood in memory into rdx and rax where it isn't what stands there.
+#[tactic(auto, unfolding(crate::specs::Pair::gprs_exchanged))]
+pub(crate) fn exchange_registers(i: &PairPlan, found: u128, gprs: &mut Gprs)
+    ensures { gprs.new ≡ gprs_exchanged i.now found gprs.old }
+{
+    if !is_equal(i.half, found, gprs) {
+        load_registers(i.half, found, gprs);
+    }
+}

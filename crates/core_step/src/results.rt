@@ -1,0 +1,398 @@
+//! What comes of an instruction, from the numbers of its destination and its source.
+ghost use Rattle.std.specs.Prelude.{◌≡◌, ◌<◌, ◌^◌};
+ghost use Rattle.std.specs.Prelude.{IsTrue, ◌*◌};
+ghost use Rattle.gpr_units.specs.Alu.{is_alu, alu_value, alu_flags};
+ghost use Rattle.bit_units.specs.Bits.{bits_value, bits_flags};
+ghost use Rattle.core_step.specs.Size.{bits_in, bytes_in};
+ghost use Rattle.core_step.specs.Fits.{OutcomeFits};
+ghost use Rattle.core_step.specs.Result.{reversed as reversed_to, sign_bits as sign_bits_of, counted_down as counted_down_to, passes as passes_of, gives as gives_of, jumps as jumps_of, loops as loops_of, pushes as pushes_of, pops as pops_of, exchanges_numbers, calls as calls_of, returns_to, calls_system as calls_system_of, counts as counts_of, breaks as breaks_of, exchanges_sum as exchanges_sum_of, compares as compares_of, multiplies_wide as multiplies_wide_of, multiplies as multiplies_of, divides as divides_of, shifts as shifts_of, scans as scans_of, core_outcome as core_outcome_of, gpr_outcome as gpr_outcome_of, bit_outcome as bit_outcome_of, outcome_of, faults as faults_of};
+
+use crate::acted::Acted;
+use crate::flags::with_low;
+use crate::kinds::{Instruction, Outcome, Size};
+use bit_units::{bits, shift};
+use gpr_flags::{Fault, Flags};
+use gpr_units::{alu, divide, multiply};
+use row_table::{BitOp, CoreOp, GprOp, Op};
+
+/// The bytes in the other order.
+fn reversed(size: Size, number: u64) -> u64
+    requires { number < 2 ^ bits_in size }
+    ensures { result ≡ reversed_to size number }
+{
+    match size {
+        Size::Byte => number,
+        Size::Word => (number as u16).swap_bytes() as u64,
+        Size::Double => (number as u32).swap_bytes() as u64,
+        Size::Quad => number.swap_bytes(),
+    }
+}
+
+fn sign_bits(size: Size, number: u64) -> u64
+    ensures { result ≡ sign_bits_of size number }
+{
+    if size.is_negative(number) {
+        u64::MAX
+    } else {
+        0
+    }
+}
+
+fn counted_down(size: Size, count: u64) -> u64
+    ensures { result ≡ counted_down_to size count }
+{
+    size.cut(count.wrapping_sub(1))
+}
+
+/// The instruction pointer moves on.
+fn passes(i: &Instruction, flags: Flags) -> Outcome
+    ensures { result ≡ passes_of i.now flags }
+{
+    Outcome {
+        acted: Acted::Done,
+        destination: None,
+        third: None,
+        stack: None,
+        flags,
+        rip: i.next,
+    }
+}
+
+/// A number goes to the destination.
+fn gives(number: u64, i: &Instruction, flags: Flags) -> Outcome
+    ensures { result ≡ gives_of number i.now flags }
+{
+    Outcome {
+        destination: Some(number),
+        ..passes(i, flags)
+    }
+}
+
+/// The next instruction is elsewhere, where the condition is met.
+fn jumps(taken: bool, target: u64, i: &Instruction, flags: Flags) -> Outcome
+    ensures { result ≡ jumps_of taken target i.now flags }
+{
+    Outcome {
+        rip: if taken { target } else { i.next },
+        ..passes(i, flags)
+    }
+}
+
+/// A count is lowered, and the next instruction is elsewhere where it isn't 0 then and the condition is met.
+fn loops(met: bool, count: u64, target: u64, i: &Instruction, flags: Flags) -> Outcome
+    ensures { result ≡ loops_of met (counted_down_to i.now.size count) target i.now flags }
+{
+    let left = counted_down(i.size, count);
+    Outcome {
+        destination: Some(left),
+        ..jumps(left != 0 && met, target, i, flags)
+    }
+}
+
+/// A number is pushed.
+fn pushes(number: u64, i: &Instruction, flags: Flags) -> Outcome
+    ensures { result ≡ pushes_of number i.now flags }
+{
+    Outcome {
+        stack: Some(i.stack),
+        ..gives(number, i, flags)
+    }
+}
+
+/// The stack's operand is taken off.
+fn pops(i: &Instruction, outcome: Outcome) -> Outcome
+    ensures { result ≡ pops_of i.now outcome }
+{
+    Outcome {
+        stack: Some(i.stack.wrapping_add(i.size.bytes() as u64)),
+        ..outcome
+    }
+}
+
+/// The instruction faults, and nothing changes.
+fn faults(fault: Fault, i: &Instruction, flags: Flags) -> Outcome
+    ensures { result ≡ faults_of fault i.now flags }
+{
+    Outcome {
+        acted: Acted::Trap(fault),
+        rip: i.rip,
+        ..passes(i, flags)
+    }
+}
+
+/// A sum goes to the destination, and what stood there to the source.
+fn exchanges_sum(i: &Instruction, a: u64, b: u64, f: Flags) -> Outcome
+    ensures { result ≡ exchanges_sum_of i.now a b f }
+{
+    Outcome {
+        third: Some(a),
+        ..computes(GprOp::Add, i, a, b, f)
+    }
+}
+
+/// rAX, which is `c`, is compared with the destination.
+fn compares(i: &Instruction, a: u64, b: u64, c: u64, f: Flags) -> Outcome
+    ensures { result ≡ compares_of i.now a b c f }
+{
+    let Outcome { flags, .. } = computes(GprOp::Cmp, i, c, a, f);
+    let is_equal = c == a;
+    Outcome {
+        destination: if is_equal { Some(b) } else { None },
+        third: if is_equal { None } else { Some(a) },
+        ..passes(i, flags)
+    }
+}
+
+/// What stood in the destination goes to the third operand.
+fn exchanges(a: u64, b: u64, i: &Instruction, f: Flags) -> Outcome
+    ensures { result ≡ exchanges_numbers a b i.now f }
+{
+    Outcome {
+        third: Some(a),
+        ..gives(b, i, f)
+    }
+}
+
+/// The address of the next instruction is pushed, and the next one is elsewhere.
+fn calls(target: u64, i: &Instruction, f: Flags) -> Outcome
+    ensures { result ≡ calls_of target i.now f }
+{
+    Outcome {
+        rip: target,
+        ..pushes(i.next, i, f)
+    }
+}
+
+/// The next instruction is where the stack says.
+fn returns(target: u64, i: &Instruction, f: Flags) -> Outcome
+    ensures { result ≡ returns_to target i.now f }
+{
+    Outcome {
+        stack: Some(i.stack.wrapping_add(8).wrapping_add(i.freed)),
+        ..jumps(true, target, i, f)
+    }
+}
+
+/// The call of the system is answered behind the instruction.
+fn calls_system(i: &Instruction, f: Flags) -> Outcome
+    ensures { result ≡ calls_system_of i.now f }
+{
+    Outcome {
+        acted: Acted::Call,
+        third: Some(f.word()),
+        ..gives(i.next, i, f)
+    }
+}
+
+/// A counter, in two halves.
+fn counts(counter: u64, i: &Instruction, f: Flags) -> Outcome
+    ensures { result ≡ counts_of counter i.now f }
+{
+    Outcome {
+        third: Some(counter >> 32),
+        ..gives(counter, i, f)
+    }
+}
+
+/// A trap behind the instruction.
+fn breaks(i: &Instruction, f: Flags) -> Outcome
+    ensures { result ≡ breaks_of i.now f }
+{
+    Outcome {
+        acted: Acted::Trap(Fault::Breakpoint),
+        ..passes(i, f)
+    }
+}
+
+/// What the core does by itself.
+#[tactic(auto, unfolding(crate::specs::Result::core_outcome))]
+fn core_outcome(
+    op: CoreOp,
+    i: &Instruction,
+    a: u64,
+    b: u64,
+    c: u64,
+    f: Flags,
+    steps: u64,
+) -> Outcome
+    requires a { a < 2 ^ bits_in i.now.size }
+    requires b { b < 2 ^ bits_in i.now.source_size }
+    requires condition { i.now.condition < 16 }
+    ensures outcome { result ≡ core_outcome_of op i.now a b c f steps }
+    ensures fits { OutcomeFits result f }
+{
+    match op {
+        CoreOp::Mov | CoreOp::Movzx | CoreOp::Lea | CoreOp::Movnti => gives(b, i, f),
+        CoreOp::Movbe => gives(reversed(i.source_size, b), i, f),
+        CoreOp::Movsx | CoreOp::Movsxd | CoreOp::Cbw => gives(i.source_size.sign_extend(b), i, f),
+        CoreOp::Xchg => exchanges(a, b, i, f),
+        CoreOp::Push => pushes(b, i, f),
+        CoreOp::Pop | CoreOp::Leave => pops(i, gives(b, i, f)),
+        CoreOp::Pushf => pushes(f.word(), i, f),
+        CoreOp::Popf => pops(i, passes(i, Flags::from_word(b))),
+        CoreOp::Call => calls(b, i, f),
+        CoreOp::Ret => returns(b, i, f),
+        CoreOp::Jmp => jumps(true, b, i, f),
+        CoreOp::Jcc => jumps(f.holds(i.condition), b, i, f),
+        CoreOp::Loopne => loops(!f.zf, a, b, i, f),
+        CoreOp::Loope => loops(f.zf, a, b, i, f),
+        CoreOp::Loop => loops(true, a, b, i, f),
+        CoreOp::Jrcxz => jumps(a == 0, b, i, f),
+        CoreOp::Cmovcc => gives(if f.holds(i.condition) { b } else { a }, i, f),
+        CoreOp::Setcc => gives(if f.holds(i.condition) { 1 } else { 0 }, i, f),
+        CoreOp::Cwd => gives(sign_bits(i.size, b), i, f),
+        CoreOp::Bswap => gives(reversed(i.size, a), i, f),
+        CoreOp::Cmc => passes(i, Flags { cf: !f.cf, ..f }),
+        CoreOp::Clc => passes(i, Flags { cf: false, ..f }),
+        CoreOp::Stc => passes(i, Flags { cf: true, ..f }),
+        CoreOp::Cld => passes(i, Flags { df: false, ..f }),
+        CoreOp::Std => passes(i, Flags { df: true, ..f }),
+        CoreOp::Sahf => passes(i, with_low(f, b)),
+        CoreOp::Lahf => gives(f.word(), i, f),
+        CoreOp::Int3 => breaks(i, f),
+        CoreOp::Hlt => faults(Fault::General, i, f),
+        CoreOp::Syscall => calls_system(i, f),
+        CoreOp::Rdtsc => counts(steps, i, f),
+        CoreOp::Nop | CoreOp::Clflush => passes(i, f),
+        CoreOp::Xadd => exchanges_sum(i, a, b, f),
+        CoreOp::Cmpxchg => compares(i, a, b, c, f),
+        _ => faults(Fault::Undefined, i, f),
+    }
+}
+
+/// A product of two numbers, in two halves.
+fn multiplies_wide(signed: bool, i: &Instruction, a: u64, b: u64, f: Flags) -> Outcome
+    ensures outcome { result ≡ multiplies_wide_of signed i.now a b f }
+{
+    let mut flags = f;
+    let (low, high) = multiply(i.size.bytes(), signed, a, b, &mut flags);
+    Outcome {
+        third: Some(high),
+        ..gives(low, i, flags)
+    }
+}
+
+/// The lower half of a signed product.
+fn multiplies(i: &Instruction, a: u64, b: u64, f: Flags) -> Outcome
+    ensures outcome { result ≡ multiplies_of i.now a b f }
+{
+    let mut flags = f;
+    let (low, _) = multiply(i.size.bytes(), true, a, b, &mut flags);
+    gives(low, i, flags)
+}
+
+/// A quotient and its remainder.
+fn divides(signed: bool, i: &Instruction, high: u64, low: u64, by: u64, f: Flags) -> Outcome
+    ensures outcome { result ≡ divides_of signed i.now high low by f }
+    ensures fits { OutcomeFits result f }
+{
+    match divide(i.size.bytes(), signed, high, low, by) {
+        Ok((quotient, remainder)) => Outcome {
+            third: Some(remainder),
+            ..gives(quotient, i, f)
+        },
+        Err(_) => faults(Fault::Divide, i, f),
+    }
+}
+
+/// The value and the flags of one operation go to the destination.
+fn computes(op: GprOp, i: &Instruction, a: u64, b: u64, f: Flags) -> Outcome
+    requires { IsTrue (is_alu (Op.Gpr op)) }
+    ensures { result ≡ gives_of (alu_value (Op.Gpr op) (8 * bytes_in i.now.size) a b f) i.now
+        (alu_flags (Op.Gpr op) (8 * bytes_in i.now.size) a b f) }
+{
+    let mut flags = f;
+    let value = alu(Op::Gpr(op), i.size.bytes(), a, b, &mut flags);
+    gives(value, i, flags)
+}
+
+/// Arithmetic.
+#[tactic(auto, unfolding(crate::specs::Result::gpr_outcome))]
+fn gpr_outcome(op: GprOp, i: &Instruction, a: u64, b: u64, c: u64, f: Flags) -> Outcome
+    ensures outcome { result ≡ gpr_outcome_of op i.now a b c f }
+    ensures fits { OutcomeFits result f }
+{
+    match op {
+        GprOp::Mul => multiplies_wide(false, i, a, b, f),
+        GprOp::Imul => {
+            if i.wide {
+                multiplies_wide(true, i, a, b, f)
+            } else {
+                multiplies(i, b, c, f)
+            }
+        }
+        GprOp::Div => divides(false, i, c, a, b, f),
+        GprOp::Idiv => divides(true, i, c, a, b, f),
+        GprOp::Mulx => faults(Fault::Undefined, i, f),
+        _ => computes(op, i, a, b, f),
+    }
+}
+
+/// A shift or a rotate, where `b` is the second operand of a double shift.
+fn shifts(op: BitOp, i: &Instruction, a: u64, b: u64, count: u64, f: Flags) -> Outcome
+    ensures { result ≡ shifts_of op i.now a b count f }
+{
+    let mut flags = f;
+    let value = shift(
+        Op::Bit(op),
+        i.size.bytes(),
+        a,
+        b,
+        (count % 256) as u8,
+        &mut flags,
+    );
+    gives(value, i, flags)
+}
+
+/// The value and the flags of one operation on bits.
+fn picks(op: BitOp, i: &Instruction, a: u64, b: u64, f: Flags) -> Outcome
+    ensures { result ≡ gives_of (bits_value (Op.Bit op) (8 * bytes_in i.now.size) a b) i.now
+        (bits_flags (Op.Bit op) (8 * bytes_in i.now.size) a b f) }
+{
+    let mut flags = f;
+    let value = bits(Op::Bit(op), i.size.bytes(), a, b, &mut flags);
+    gives(value, i, flags)
+}
+
+/// A scan; where the source is 0 the destination stays.
+fn scans(op: BitOp, i: &Instruction, a: u64, b: u64, f: Flags) -> Outcome
+    ensures { result ≡ scans_of op i.now a b f }
+{
+    let outcome = picks(op, i, a, b, f);
+    Outcome {
+        destination: if b == 0 { None } else { outcome.destination },
+        ..outcome
+    }
+}
+
+/// Shifts, rotates, and operations on bits.
+#[tactic(auto, unfolding(crate::specs::Result::bit_outcome))]
+fn bit_outcome(op: BitOp, i: &Instruction, a: u64, b: u64, c: u64, f: Flags) -> Outcome
+    ensures outcome { result ≡ bit_outcome_of op i.now a b c f }
+    ensures fits { OutcomeFits result f }
+{
+    match op {
+        BitOp::Rol | BitOp::Ror | BitOp::Rcl | BitOp::Rcr | BitOp::Shl | BitOp::Shr | BitOp::Sar =>
+            shifts(op, i, a, 0, b, f),
+        BitOp::Shld | BitOp::Shrd => shifts(op, i, a, b, c, f),
+        BitOp::Bsf | BitOp::Bsr => scans(op, i, a, b, f),
+        _ => picks(op, i, a, b, f),
+    }
+}
+
+/// What comes of an instruction: `a` is the number of its destination, `b` that of its source, `c` that of its third operand.
+#[tactic(auto, unfolding(crate::specs::Result::outcome_of))]
+pub(crate) fn outcome(i: &Instruction, a: u64, b: u64, c: u64, f: Flags, steps: u64) -> Outcome
+    requires a { a < 2 ^ bits_in i.now.size }
+    requires b { b < 2 ^ bits_in i.now.source_size }
+    requires condition { i.now.condition < 16 }
+    ensures outcome { result ≡ outcome_of i.now a b c f steps }
+    ensures fits { OutcomeFits result f }
+{
+    match i.op {
+        Op::Core(op) => core_outcome(op, i, a, b, c, f, steps),
+        Op::Gpr(op) => gpr_outcome(op, i, a, b, c, f),
+        Op::Bit(op) => bit_outcome(op, i, a, b, c, f),
+        _ => faults(Fault::Undefined, i, f),
+    }
+}

@@ -1,0 +1,93 @@
+//! Numbers of an operand's size, and the parts of general registers.
+ghost use Rattle.std.specs.Prelude.{◌≡◌, ◌≤◌, ◌<◌, ◌^◌};
+ghost use Rattle.core_step.specs.Size.{bytes_in, bits_in, cut as cut_to, is_negative as is_negative_at, sign_extended, half_of, register_with, with_high_byte as with_high};
+
+use crate::kinds::Size;
+
+impl Size {
+    /// How many bytes it has.
+    pub(crate) fn bytes(self) -> u8
+        ensures value { result ≡ bytes_in self }
+        ensures some { 1 ≤ result }
+        ensures most { result ≤ 8 }
+    {
+        match self {
+            Size::Byte => 1,
+            Size::Word => 2,
+            Size::Double => 4,
+            Size::Quad => 8,
+        }
+    }
+
+    /// The low bits of a number, as many as the size has.
+    pub(crate) fn cut(self, number: u64) -> u64
+        ensures { result ≡ cut_to self number }
+    {
+        match self {
+            Size::Byte => number % 0x100,
+            Size::Word => number % 0x1_0000,
+            Size::Double => number % 0x1_0000_0000,
+            Size::Quad => number,
+        }
+    }
+
+    /// Whether the highest bit of a number of this size is 1.
+    pub(crate) fn is_negative(self, number: u64) -> bool
+        ensures { result ≡ is_negative_at self number }
+    {
+        match self {
+            Size::Byte => number >= 0x80,
+            Size::Word => number >= 0x8000,
+            Size::Double => number >= 0x8000_0000,
+            Size::Quad => number >= 0x8000_0000_0000_0000,
+        }
+    }
+
+    /// A number of this size at 64 bits, with its sign.
+    pub(crate) fn sign_extend(self, number: u64) -> u64
+        requires { number < 2 ^ bits_in self }
+        ensures { result ≡ sign_extended self number }
+    {
+        let above = match self {
+            Size::Byte => 0xFFFF_FFFF_FFFF_FF00,
+            Size::Word => 0xFFFF_FFFF_FFFF_0000,
+            Size::Double => 0xFFFF_FFFF_0000_0000,
+            Size::Quad => 0,
+        };
+        if self.is_negative(number) {
+            above + number
+        } else {
+            number
+        }
+    }
+
+    /// The size that has half as many bits.
+    pub(crate) fn half(self) -> Size
+        ensures { result ≡ half_of self }
+    {
+        match self {
+            Size::Byte | Size::Word => Size::Byte,
+            Size::Double => Size::Word,
+            Size::Quad => Size::Double,
+        }
+    }
+
+    /// A register where a number of this size was written to it.
+    pub(crate) fn put(self, old: u64, number: u64) -> u64
+        ensures { result ≡ register_with self old number }
+    {
+        match self {
+            Size::Byte => old / 0x100 * 0x100 + number % 0x100,
+            Size::Word => old / 0x1_0000 * 0x1_0000 + number % 0x1_0000,
+            Size::Double => number % 0x1_0000_0000,
+            Size::Quad => number,
+        }
+    }
+}
+
+/// A register with other bits 8 to 15.
+pub(crate) fn with_high_byte(old: u64, number: u64) -> u64
+    ensures { result ≡ with_high old number }
+{
+    old / 0x1_0000 * 0x1_0000 + number % 0x100 * 0x100 + old % 0x100
+}

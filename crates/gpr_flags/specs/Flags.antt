@@ -1,0 +1,48 @@
+-- The flags, the conditions on them, and RFLAGS as a number.
+use Rattle.std.specs.Prelude.{ℕ, ◌+◌, ◌/◌, ◌%◌, ◌==◌, Bool, false, not, ◌||◌, if◌then◌else◌}
+use Rattle.std.specs.Bool.{beq}
+use Rattle.gpr_flags.specs.declared.kinds.Flags.{Flags}
+
+abbrev pub no_flags : Flags
+no_flags = record { cf = false; pf = false; af = false; zf = false; sf = false; df = false; ovf = false }
+
+abbrev pub flag_bit : Bool → ℕ → ℕ
+flag_bit set weight = if set then weight else 0
+
+-- RFLAGS as a number: bits 1 and 9 are always set (SDM volume 1, 3.4.3)
+abbrev pub flags_word : Flags → ℕ
+flags_word f =
+    514 + flag_bit f.cf 1 + flag_bit f.pf 4 + flag_bit f.af 16 + flag_bit f.zf 64 + flag_bit f.sf 128 + flag_bit f.df 1024
+    + flag_bit f.ovf 2048
+
+-- a bit of a flags word
+abbrev pub has_bit : ℕ → ℕ → Bool
+has_bit word weight = word / weight % 2 == 1
+
+-- the flags of a word; its other bits don't count (POPF; which flags a program changes is this program's own)
+unfoldable pub flags_of : ℕ → Flags
+flags_of word = record {
+  cf = has_bit word 1;
+  pf = has_bit word 4;
+  af = has_bit word 16;
+  zf = has_bit word 64;
+  sf = has_bit word 128;
+  df = has_bit word 1024;
+  ovf = has_bit word 2048;
+}
+
+-- the conditions in the order of their numbers: O, B, Z, BE, S, P, L, LE, where an odd number negates the one before it (SDM
+-- volume 1, appendix B)
+abbrev pub even_condition : Flags → ℕ → Bool
+even_condition f number =
+    if number == 0 then f.ovf
+    else if number == 1 then f.cf
+    else if number == 2 then f.zf
+    else if number == 3 then f.cf || f.zf
+    else if number == 4 then f.sf
+    else if number == 5 then f.pf
+    else if number == 6 then not (beq f.sf f.ovf)
+    else f.zf || not (beq f.sf f.ovf)
+
+unfoldable pub holds : Flags → ℕ → Bool
+holds f condition = if condition % 2 == 1 then not (even_condition f (condition / 2)) else even_condition f (condition / 2)

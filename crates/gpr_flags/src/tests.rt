@@ -1,0 +1,47 @@
+//! Words and conditions. What is expected is the SDM's.
+use crate::*;
+
+/// A flags word, and the numbers of the conditions that it meets, as bits (SDM volume 1, 3.4.3 and appendix B).
+const CONDITIONS: [(u64, u16); 7] = [
+    (0x202, 0b1010_1010_1010_1010),
+    (0x203, 0b1010_1010_0110_0110),
+    (0x206, 0b1010_0110_1010_1010),
+    (0x242, 0b0110_1010_0101_1010),
+    (0x282, 0b0101_1001_1010_1010),
+    (0xA02, 0b0101_1010_1010_1001),
+    (0xA82, 0b1010_1001_1010_1001),
+];
+
+#[test]
+fn conditions_follow_the_flags(rt: HostRuntime) {
+    for (word, met) in CONDITIONS {
+        let flags = Flags::from_word(word);
+        for cond in 0..16u8 {
+            assert_eq!(rt;
+                flags.holds(cond),
+                met >> cond & 1 == 1,
+                "condition {cond} at {word}"
+            );
+        }
+    }
+}
+
+#[test]
+fn word_of_flags_of_a_word(rt: HostRuntime) {
+    assert_eq!(rt; Flags::none().word(), 0x202);
+    // Of all bits, CF, PF, AF, ZF, SF, DF and OF stay, and the two that are always set.
+    assert_eq!(rt; Flags::from_word(u64::MAX).word(), 0xED7);
+    assert_eq!(rt; Flags::from_word(0xA92).word(), 0xA92);
+    assert!(rt; Flags::from_word(0xA92).ovf);
+    assert!(rt; !Flags::from_word(0xA92).cf);
+}
+
+#[test]
+fn registers_keep_their_values(rt: HostRuntime) {
+    let mut gprs = Gprs::new();
+    gprs.set(4, 7);
+    gprs.set(15, u64::MAX);
+    assert_eq!(rt; gprs.get(0), 0);
+    assert_eq!(rt; gprs.get(4), 7);
+    assert_eq!(rt; gprs.get(15), u64::MAX);
+}

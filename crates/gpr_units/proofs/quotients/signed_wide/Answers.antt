@@ -1,0 +1,23 @@
+use Rattle.std.proofs.Common.{◌<◌, ◌-◌, ◌*◌, arith}
+use Rattle.std.proofs.lemmas.Int.{ints}
+use Rattle.gpr_units.proofs.Bits.{power-half, half_wide-small, power-some}
+use Rattle.gpr_units.proofs.quotients.signed_wide.Goals as goal
+
+pub above_zero-requires : goal.above_zero-requires
+above_zero-requires c = omega (arith, half_wide-small c.args.bits c.requires.most)
+
+pub below_zero-requires : goal.below_zero-requires
+below_zero-requires c =
+    let some : 0 < 2 * c.args.bits = omega arith in
+    let h = half_wide-small c.args.bits c.requires.most in
+    let e = power-half (2 * c.args.bits) some in
+    let p = power-some (2 * c.args.bits - 1) in
+    omega (arith, h, e, p)
+
+pub returns-else-number-bits : goal.returns-else-number-bits
+returns-else-number-bits c =
+    let some : 0 < 2 * c.args.bits = omega arith in
+    let h = half_wide-small c.args.bits c.requires.most in
+    let e = power-half (2 * c.args.bits) some in
+    let p = power-some (2 * c.args.bits - 1) in
+    grind (arith, ints, h, e, p)

@@ -1,0 +1,4 @@
+pub mod Numbers
+pub mod Alu
+pub mod Multiply
+pub mod Divide

@@ -1,0 +1,95 @@
+//! Products.
+ghost use Rattle.std.specs.Prelude.{◌≡◌, pos, ◌*◌, ◌<◌, ◌≤◌, ◌^◌, ◌*ℤ◌, true, false};
+ghost use Rattle.gpr_units.specs.Numbers.{signed_of};
+ghost use Rattle.gpr_units.specs.Multiply.{product_of, low_half, high_half, product_flags};
+
+use crate::numbers::{bits_in, cut, full, is_outside_signed, low, signed as signed_number};
+use gpr_flags::Flags;
+
+fn signed_product(a: i64, b: i64) -> i128
+    ensures { result ≡ a *ℤ b }
+{
+    i128::from(a) * i128::from(b)
+}
+
+/// The halves of the low bits of a product, twice `bits` of them.
+fn halves(bits: u32, product: u128) -> (u64, u64)
+    requires { bits ≤ 64 }
+    ensures low { result.0 ≡ low_half bits (pos product) }
+    ensures high { result.1 ≡ high_half bits (pos product) }
+    ensures low_small { result.0 < 2 ^ bits }
+    ensures high_small { result.1 < 2 ^ bits }
+{
+    (low(bits, product), low(bits, product / full(bits)))
+}
+
+/// The same of a signed product.
+fn signed_halves(bits: u32, product: i128) -> (u64, u64)
+    requires { bits ≤ 64 }
+    ensures low { result.0 ≡ low_half bits product }
+    ensures high { result.1 ≡ high_half bits product }
+    ensures low_small { result.0 < 2 ^ bits }
+    ensures high_small { result.1 < 2 ^ bits }
+{
+    halves(bits, product.cast_unsigned())
+}
+
+fn set_wide(is_wide: bool, f: &mut Flags)
+    ensures { f.new ≡ record f.old { cf = is_wide; ovf = is_wide } }
+{
+    f.cf = is_wide;
+    f.ovf = is_wide;
+}
+
+fn multiply_unsigned(bits: u32, a: u64, b: u64, f: &mut Flags) -> (u64, u64)
+    requires most { bits ≤ 64 }
+    requires a { a < 2 ^ bits }
+    requires b { b < 2 ^ bits }
+    ensures low { result.0 ≡ low_half bits (pos (a * b)) }
+    ensures high { result.1 ≡ high_half bits (pos (a * b)) }
+    ensures flags { f.new ≡ product_flags false bits (pos (a * b)) f.old }
+    ensures low_small { result.0 < 2 ^ bits }
+    ensures high_small { result.1 < 2 ^ bits }
+{
+    let product = u128::from(a) * u128::from(b);
+    set_wide(product >= full(bits), f);
+    halves(bits, product)
+}
+
+fn multiply_signed(bits: u32, a: u64, b: u64, f: &mut Flags) -> (u64, u64)
+    requires some { 0 < bits }
+    requires most { bits ≤ 64 }
+    requires a { a < 2 ^ bits }
+    requires b { b < 2 ^ bits }
+    ensures low { result.0 ≡ low_half bits (signed_of bits a *ℤ signed_of bits b) }
+    ensures high { result.1 ≡ high_half bits (signed_of bits a *ℤ signed_of bits b) }
+    ensures flags { f.new ≡ product_flags true bits (signed_of bits a *ℤ signed_of bits b) f.old }
+    ensures low_small { result.0 < 2 ^ bits }
+    ensures high_small { result.1 < 2 ^ bits }
+{
+    let product = signed_product(signed_number(bits, a), signed_number(bits, b));
+    set_wide(is_outside_signed(bits, product), f);
+    signed_halves(bits, product)
+}
+
+/// The product of operands of `size` bytes, as its low half and its high half (SDM volume 2, MUL and IMUL). CF and OF say
+/// that the high half is significant. Bits of the operands above the size don't count.
+#[tactic(auto, unfolding(crate::specs::Multiply::product_of))]
+pub fn multiply(size: u8, signed: bool, a: u64, b: u64, f: &mut Flags) -> (u64, u64)
+    requires some { 0 < size }
+    requires most { size ≤ 8 }
+    ensures low { result.0 ≡ low_half (8 * size) (product_of signed (8 * size) a b) }
+    ensures high { result.1 ≡ high_half (8 * size) (product_of signed (8 * size) a b) }
+    ensures flags { f.new ≡ product_flags signed (8 * size) (product_of signed (8 * size) a b) f.old }
+    ensures low_small { result.0 < 2 ^ (8 * size) }
+    ensures high_small { result.1 < 2 ^ (8 * size) }
+{
+    let bits = bits_in(size);
+    let a = cut(bits, a);
+    let b = cut(bits, b);
+    if signed {
+        multiply_signed(bits, a, b, f)
+    } else {
+        multiply_unsigned(bits, a, b, f)
+    }
+}
