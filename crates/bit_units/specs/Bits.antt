@@ -1,16 +1,17 @@
 -- Single bits, scans, counts, and the operations of VEX on general registers, over numbers below 2 ^ width: the value, and
 -- the flags by that value. A flag that the SDM leaves open stays: that is this program's own choice.
 use Rattle.std.specs.Prelude.{ℕ, ◌+◌, ◌-◌, ◌/◌, ◌%◌, ◌^◌, ◌==◌, Bool, false, not, nat_lt, if◌then◌else◌, bit_and, bit_or, bit_xor, count_ones}
-use Rattle.std.specs.Int.{w32, w64, swap_bytes}
+use Rattle.std.specs.Int.{w16, w32, w64, swap_bytes}
 use Rattle.std.specs.Int.Count.{count_leading_zeros, count_trailing_zeros}
 use Rattle.gpr_flags.specs.declared.kinds.Flags.{Flags}
+use Rattle.gpr_flags.specs.Flags.{sign_and_zero}
 use Rattle.row_table.specs.declared.operations.Op.{Op}
 use Rattle.row_table.specs.declared.operations.Op.TheVariants.{Bit, Core}
 use Rattle.row_table.specs.declared.operations.CoreOp.{CoreOp}
 use Rattle.row_table.specs.declared.operations.CoreOp.TheVariants.{Bswap}
 use Rattle.row_table.specs.declared.operations.BitOp.{BitOp}
 use Rattle.row_table.specs.declared.operations.BitOp.TheVariants.{Bt, Bts, Btr, Btc, Popcnt, Bsf, Tzcnt, Bsr, Lzcnt, Andn, Blsr, Blsmsk, Blsi, Bzhi, Pext, Pdep, Bextr, Shlx, Sarx, Shrx, Rorx}
-use Rattle.bit_units.specs.Numbers.{has_bit, masked, sign_and_zero}
+use Rattle.bit_units.specs.Numbers.{has_bit, masked}
 use Rattle.bit_units.specs.Shifts.{shl_value, shr_value, sar_value, ror_value}
 use Rattle.bit_units.specs.Picks.{extracted, deposited}
 
@@ -52,9 +53,13 @@ zeros_flags b value f = record f { cf = b == 0; zf = value == 0 }
 abbrev pub popcnt_flags : (b : ℕ) → Flags → Flags
 popcnt_flags b f = record f { cf = false; pf = false; af = false; zf = b == 0; sf = false; ovf = false }
 
--- ---- the bytes in the other order; of 16 bits, which the SDM leaves open, the number stays (SDM volume 2, BSWAP)
+-- ---- the bytes in the other order (SDM volume 2, BSWAP, which has 32 and 64 bits, and MOVBE)
 abbrev pub reversed : (width a : ℕ) → ℕ
-reversed width a = if width == 64 then swap_bytes w64 a else if width == 32 then swap_bytes w32 a else a
+reversed width a =
+    if width == 64 then swap_bytes w64 a
+    else if width == 32 then swap_bytes w32 a
+    else if width == 16 then swap_bytes w16 a
+    else a
 
 -- ---- masks
 -- (SDM volume 2, ANDN)

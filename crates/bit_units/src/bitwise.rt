@@ -6,7 +6,7 @@ use crate::masking::{
     andn_value, bextr_flags, bextr_value, blsi_value, blsmsk_value, blsr_value, bzhi_value,
     low_byte, mask_flags, reversed,
 };
-use crate::numbers::{low, masked};
+use crate::numbers::masked;
 use crate::picking::{deposited, extracted};
 use crate::rotating::ror_value;
 use crate::scanning::{
@@ -15,7 +15,7 @@ use crate::scanning::{
 };
 use crate::shifting::{sar_value, shl_value, shr_value};
 use crate::single_bits::{bt_flags, btc_value, btr_value, bts_value};
-use gpr_flags::Flags;
+use gpr_flags::{Flags, low};
 use row_table::{BitOp, CoreOp, Op};
 
 /// The value by operation.

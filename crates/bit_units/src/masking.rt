@@ -2,10 +2,10 @@
 ghost use Rattle.std.specs.Prelude.{◌≡◌, ◌/◌, ◌%◌, ◌^◌, ◌<◌, ◌≤◌};
 ghost use Rattle.bit_units.specs.Bits.{andn_value as value_of_andn, less_one as one_less, blsr_value as value_of_blsr, blsmsk_value as value_of_blsmsk, blsi_value as value_of_blsi, mask_flags as flags_of_mask, bzhi_value as value_of_bzhi, bextr_value as value_of_bextr, bextr_flags as flags_of_bextr, reversed as reversed_at};
 
-use crate::numbers::{low, ones, power, sign_and_zero};
-use gpr_flags::Flags;
+use crate::numbers::ones;
+use gpr_flags::{Flags, low, power};
 
-/// The number with its bytes in the other order, BSWAP.
+/// The number with its bytes in the other order, BSWAP and MOVBE.
 pub(crate) fn reversed(width: u32, a: u64) -> u64
     requires a { a < 2 ^ width }
     requires most { width ≤ 64 }
@@ -16,6 +16,8 @@ pub(crate) fn reversed(width: u32, a: u64) -> u64
         a.swap_bytes()
     } else if width == 32 {
         u64::from((a as u32).swap_bytes())
+    } else if width == 16 {
+        u64::from((a as u16).swap_bytes())
     } else {
         a
     }
@@ -84,7 +86,7 @@ pub(crate) fn mask_flags(width: u32, value: u64, carry: bool, f: Flags) -> Flags
         ovf: false,
         ..f
     };
-    sign_and_zero(width, value, cleared)
+    cleared.with_sign_and_zero(width, value)
 }
 
 /// The index of BZHI, the start of BEXTR.

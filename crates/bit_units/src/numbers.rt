@@ -1,26 +1,8 @@
-//! Numbers of some width in bits, their bits, and the flags of a result.
+//! Numbers of some width in bits, and their bits.
 ghost use Rattle.std.specs.Prelude.{◌≡◌, ◌-◌, ◌%◌, ◌^◌, ◌<◌, ◌≤◌};
-ghost use Rattle.bit_units.specs.Numbers.{has_bit as has_bit_of, is_negative as is_negative_of, masked as masked_to, sign_and_zero as sign_and_zero_of, value_flags as flags_of_value};
+ghost use Rattle.bit_units.specs.Numbers.{has_bit as has_bit_of, is_negative as is_negative_of, masked as masked_to};
 
-use gpr_flags::Flags;
-
-/// 2 to the power of `exponent`.
-pub(crate) fn power(exponent: u32) -> u128
-    requires { exponent < 128 }
-    ensures { result ≡ 2 ^ exponent }
-{
-    1 << exponent
-}
-
-/// The low bits of a number.
-#[tactic(auto, using(std::proofs::lemmas::Nat::and_mask))]
-pub(crate) fn low(width: u32, number: u128) -> u64
-    requires { width ≤ 64 }
-    ensures value { result ≡ number % 2 ^ width }
-    ensures fits { result < 2 ^ width }
-{
-    (number & (power(width) - 1)) as u64
-}
+use gpr_flags::power;
 
 /// The number of that width whose bits are all 1.
 pub(crate) fn ones(width: u32) -> u64
@@ -56,30 +38,5 @@ pub(crate) fn masked(width: u32, count: u64) -> u32
         (count % 64) as u32
     } else {
         (count % 32) as u32
-    }
-}
-
-/// The flags with SF and ZF of a result.
-pub(crate) fn sign_and_zero(width: u32, value: u64, f: Flags) -> Flags
-    requires some { 0 < width }
-    requires most { width ≤ 64 }
-    ensures { result ≡ sign_and_zero_of width value f }
-{
-    Flags {
-        zf: value == 0,
-        sf: is_negative(width, value),
-        ..f
-    }
-}
-
-/// The flags with SF, ZF and PF of a result.
-pub(crate) fn value_flags(width: u32, value: u64, f: Flags) -> Flags
-    requires some { 0 < width }
-    requires most { width ≤ 64 }
-    ensures { result ≡ flags_of_value width value f }
-{
-    Flags {
-        pf: (value % 256).count_ones() % 2 == 0,
-        ..sign_and_zero(width, value, f)
     }
 }

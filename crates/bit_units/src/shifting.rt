@@ -4,11 +4,11 @@ ghost use Rattle.bit_units.specs.Numbers.{is_negative as is_negative_of, has_bit
 ghost use Rattle.bit_units.specs.Shifts.{shl_value as value_of_shl, shr_value as value_of_shr, sar_value as value_of_sar, shld_value as value_of_shld, shrd_value as value_of_shrd, shl_flags as flags_of_shl, shr_flags as flags_of_shr, sar_flags as flags_of_sar, shld_flags as flags_of_shld, shrd_flags as flags_of_shrd, overflow_at_one as overflow_of_one, shifted_value as value_shifted, shifted_flags as flags_shifted, value_of_shift, flags_of_shift, shift_value, shift_flags};
 ghost use Rattle.row_table.specs.declared.operations.Op.TheVariants.{Bit};
 
-use crate::numbers::{has_bit, is_negative, low, masked, ones, power, value_flags};
+use crate::numbers::{has_bit, is_negative, masked, ones};
 use crate::rotating::{
     rcl_flags, rcl_value, rcr_flags, rcr_value, rol_flags, rol_value, ror_flags, ror_value,
 };
-use gpr_flags::Flags;
+use gpr_flags::{Flags, low, power};
 use row_table::{BitOp, Op};
 
 /// SHL.
@@ -146,7 +146,7 @@ fn shl_flags(width: u32, a: u64, count: u32, value: u64, f: Flags) -> Flags
         ovf: overflow_at_one(count, sign_differs(width, value, a), f),
         ..f
     };
-    value_flags(width, value, shifted)
+    shifted.with_value(width, value)
 }
 
 /// The flags of SHR.
@@ -161,7 +161,7 @@ fn shr_flags(width: u32, a: u64, count: u32, value: u64, f: Flags) -> Flags
         ovf: overflow_at_one(count, is_negative(width, a), f),
         ..f
     };
-    value_flags(width, value, shifted)
+    shifted.with_value(width, value)
 }
 
 /// The flags of SAR.
@@ -176,7 +176,7 @@ fn sar_flags(width: u32, a: u64, count: u32, value: u64, f: Flags) -> Flags
         ovf: overflow_at_one(count, false, f),
         ..f
     };
-    value_flags(width, value, shifted)
+    shifted.with_value(width, value)
 }
 
 /// The flags of SHLD.
@@ -194,7 +194,7 @@ fn shld_flags(width: u32, a: u64, count: u32, value: u64, f: Flags) -> Flags
         ovf: overflow_at_one(count, sign_differs(width, value, a), f),
         ..f
     };
-    value_flags(width, value, shifted)
+    shifted.with_value(width, value)
 }
 
 /// The flags of SHRD.
@@ -212,7 +212,7 @@ fn shrd_flags(width: u32, a: u64, count: u32, value: u64, f: Flags) -> Flags
         ovf: overflow_at_one(count, sign_differs(width, value, a), f),
         ..f
     };
-    value_flags(width, value, shifted)
+    shifted.with_value(width, value)
 }
 
 /// The value by operation.

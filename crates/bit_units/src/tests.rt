@@ -52,6 +52,7 @@ fn bits_are_a_processors(rt: HostRuntime) {
 #[test]
 fn bytes_are_reversed(rt: HostRuntime) {
     let op = Op::Core(CoreOp::Bswap);
+    assert!(rt; is_done(op, 2, 0x1122_3344_5566_7788, 0, 0x8d5, 0x8877, 0x8d5));
     assert!(rt; is_done(op, 4, 0x1122_3344_5566_7788, 0, 0x8d5, 0x8877_6655, 0x8d5));
     assert!(rt; is_done(op, 8, 0x1122_3344_5566_7788, 0, 0, 0x8877_6655_4433_2211, 0));
 }

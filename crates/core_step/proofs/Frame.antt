@@ -1,12 +1,12 @@
 -- An instruction writes within its accesses alone.
-use Rattle.std.proofs.Common.{◌≡◌, ℕ, ◌+◌, ◌<◌, ◌≤◌, ◌⊎◌, inl, inr, Bool, true, false, cond, List, [], ◌∷◌, Option, Some, None, refl, slice_get, length}
+use Rattle.std.proofs.Common.{◌≡◌, ℕ, ◌+◌, ◌*◌, ◌%◌, ◌^◌, ◌<◌, ◌≤◌, ◌⊎◌, inl, inr, Bool, true, false, cond, List, [], ◌∷◌, Option, Some, None, refl, slice_get, length}
 use Rattle.std.specs.List.{All}
 use Rattle.std.proofs.lemmas.List.Elements.{All-head, All-tail}
 use Rattle.byteorder.specs.Numbers.{length-bytes_low_first}
 use Rattle.machine_state.specs.declared.kinds.Kind.TheVariants.{Write}
 use Rattle.gpr_flags.specs.declared.kinds.Fault.{Fault}
 use Rattle.gpr_flags.specs.declared.kinds.Fault.TheVariants.{General}
-use Rattle.machine_state.specs.Memory.{bytes_at, written}
+use Rattle.machine_state.specs.Memory.{bytes_at, written, number_bytes}
 use Rattle.machine_state.specs.State.{State}
 use Rattle.machine_state.proofs.MemoryLemmas.{length-bytes_at, written_below, written_above}
 use Rattle.row_table.specs.declared.kinds.Row.{Row}
@@ -26,20 +26,20 @@ use Rattle.core_step.specs.declared.kinds.StringPlan.{StringPlan}
 use Rattle.core_step.specs.declared.kinds.PairPlan.{PairPlan}
 use Rattle.core_step.specs.declared.kinds.Plan.{Plan}
 use Rattle.core_step.specs.declared.kinds.Plan.TheVariants.{Plain, OnStrings, OnPair}
-use Rattle.string_unit.specs.declared.kinds.Access.{Access}
-use Rattle.core_step.specs.Size.{bytes_in, cut}
+use Rattle.machine_state.specs.declared.kinds.Access.{Access}
+use Rattle.core_step.specs.Size.{bytes_in}
 use Rattle.core_step.specs.Operands.{use_of}
 use Rattle.core_step.specs.Strings.{is_over, source_of, destination_of, strings_access, passed_over, iterated, byte_iterated}
 use Rattle.core_step.specs.Pair.{pair_bytes, pair_write, pair_access, is_misaligned, is_equal, pair_at, pair_stored, byte_exchanged, pair_left}
 use Rattle.core_step.specs.Plan.{plan_of, plan_accesses}
 use Rattle.core_step.specs.Access.{operand_access, kind_of, accesses_of, first_fault}
-use Rattle.core_step.specs.Act.{number_for, bytes_of, byte_after, byte_left, outcome_in, trapped, done, plan_after, unless, performed_as, performed_row, performed}
+use Rattle.core_step.specs.Act.{number_for, byte_after, byte_left, outcome_in, trapped, done, plan_after, unless, performed_as, performed_row, performed}
 use Rattle.core_step.specs.Machine.{accesses, accesses_by, SparesByte, IsFramed}
 use Rattle.core_step.proofs.Parts.{All-destination}
 
 -- a number has as many bytes as its size says
-length-bytes_of : (size : Size) (number : ℕ) → length (bytes_of size number) ≡ bytes_in size
-length-bytes_of size number = length-bytes_low_first 0 (bytes_in size) (cut size number)
+length-number_bytes : (size number : ℕ) → length (number_bytes size number) ≡ size
+length-number_bytes size number = length-bytes_low_first 0 size (number % 2 ^ (8 * size))
 
 -- bytes that are written change no byte before them or behind them
 written_outside : (byte : ℕ → ℕ) (addr len : ℕ) (bytes : List ℕ) (at : ℕ) → length bytes ≡ len → (at < addr) ⊎ (addr + len ≤ at)
@@ -60,14 +60,14 @@ byte_after-spared Absent size (Some number) byte at spared = refl
 byte_after-spared (Register to) size (Some number) byte at spared = refl
 byte_after-spared (HighByte to) size (Some number) byte at spared = refl
 byte_after-spared (Memory addr) size (Some number) byte at spared =
-    written_outside byte addr (bytes_in size) (bytes_of size number) at (length-bytes_of size number)
+    written_outside byte addr (bytes_in size) (number_bytes (bytes_in size) number) at (length-number_bytes (bytes_in size) number)
     (spared-write addr (bytes_in size) at [] spared)
 byte_after-spared (Number to) size (Some number) byte at spared = refl
 
 -- a destination that is only read gets no number, and each other is accessed by a write
-number_for-spared : (use_of_it : Use) (operand : Operand) (size : Size) (number : Option ℕ) (byte : ℕ → ℕ) (at : ℕ)
-    → All (SparesByte at) (operand_access (kind_of use_of_it) operand size)
-    → byte_after operand size (number_for use_of_it number) byte at ≡ byte at
+number_for-spared : (usage : Use) (operand : Operand) (size : Size) (number : Option ℕ) (byte : ℕ → ℕ) (at : ℕ)
+    → All (SparesByte at) (operand_access (kind_of usage) operand size)
+    → byte_after operand size (number_for usage number) byte at ≡ byte at
 number_for-spared Reads operand size number byte at spared = refl
 number_for-spared Writes operand size number byte at spared = byte_after-spared operand size number byte at spared
 number_for-spared Update operand size number byte at spared = byte_after-spared operand size number byte at spared

@@ -1,8 +1,8 @@
 -- An instruction depends on its accesses alone.
-use Rattle.std.proofs.Common.{◌≡◌, ℕ, ◌+◌, ◌-◌, ◌*◌, ◌/◌, ◌%◌, ◌^◌, ◌<◌, ◌≤◌, Bool, true, false, List, [], ◌∷◌, Option, Some, None, cond, zero, suc, refl, ap, ◌∙◌, arith, slice_get, slice_index, nat_lt, nat_le, ◌&&◌, length}
+use Rattle.std.proofs.Common.{◌≡◌, ℕ, ◌+◌, ◌-◌, ◌*◌, ◌/◌, ◌<◌, ◌≤◌, Bool, true, false, List, [], ◌∷◌, Option, Some, None, cond, zero, suc, refl, ap, ◌∙◌, arith, slice_get, slice_index, nat_lt, nat_le, ◌&&◌, length}
 use Rattle.std.specs.List.{All}
 use Rattle.std.proofs.lemmas.List.Elements.{All-head, All-tail}
-use Rattle.byteorder.specs.Endian.{little_number, little_bytes}
+use Rattle.byteorder.specs.Endian.{little_number}
 use Rattle.machine_state.specs.declared.kinds.Kind.{Kind}
 use Rattle.machine_state.specs.declared.kinds.Kind.TheVariants.{Read}
 use Rattle.gpr_flags.specs.declared.kinds.Fault.{Fault}
@@ -10,8 +10,10 @@ use Rattle.gpr_flags.specs.declared.kinds.Fault.TheVariants.{General}
 use Rattle.gpr_flags.specs.declared.kinds.Flags.{Flags}
 use Rattle.machine_state.specs.declared.kinds.Miss.{Miss}
 use Rattle.machine_state.specs.declared.kinds.Miss.TheVariants.{NonCanonical}
-use Rattle.machine_state.specs.Memory.{Permissions, Memory, is_noncanonical, miss_in, miss_at, or_else, first_miss, bytes_at, written}
+use Rattle.machine_state.specs.Memory.{Permissions, Memory, is_noncanonical, miss_in, miss_at, or_else, first_miss, bytes_at, written, number_at, number_bytes}
 use Rattle.machine_state.specs.State.{State}
+use Rattle.gpr_flags.specs.Registers.{with_register}
+use Rattle.gpr_flags.specs.declared.registers.TheConstants.{RAX, RSI}
 use Rattle.machine_state.proofs.MemoryLemmas.{bytes_at_same}
 use Rattle.row_table.specs.declared.kinds.Row.{Row}
 use Rattle.row_table.specs.declared.kinds.Decoded.{Decoded}
@@ -22,7 +24,7 @@ use Rattle.row_table.specs.declared.operations.CoreOp.TheVariants.{Cmpxchg8b}
 use Rattle.row_table.specs.declared.operations.StringOp.{StringOp}
 use Rattle.row_table.specs.declared.operations.StringOp.TheVariants.{Movs, Cmps, Stos, Lods, Scas}
 use Rattle.row_table.specs.Rows.{rows}
-use Rattle.string_unit.specs.Strings.{reads, writes, number_at, string_accesses, passed, loaded, compared, string_gprs, string_flags, string_byte}
+use Rattle.string_unit.specs.Strings.{reads, writes, string_accesses, passed, compared, string_gprs, string_flags, string_byte}
 use Rattle.core_step.specs.declared.kinds.Size.{Size}
 use Rattle.core_step.specs.declared.kinds.Operand.{Operand}
 use Rattle.core_step.specs.declared.kinds.Operand.TheVariants.{Absent, Register, HighByte, Memory as InMemory, Number}
@@ -34,14 +36,14 @@ use Rattle.core_step.specs.declared.kinds.StringPlan.{StringPlan}
 use Rattle.core_step.specs.declared.kinds.PairPlan.{PairPlan}
 use Rattle.core_step.specs.declared.kinds.Plan.{Plan}
 use Rattle.core_step.specs.declared.kinds.Plan.TheVariants.{Plain, OnStrings, OnPair}
-use Rattle.string_unit.specs.declared.kinds.Access.{Access}
+use Rattle.machine_state.specs.declared.kinds.Access.{Access}
 use Rattle.core_step.specs.Size.{bytes_in}
 use Rattle.core_step.specs.Operands.{use_of, instruction_of, instruction_as, destination_in, source_in, third_in}
 use Rattle.core_step.specs.Strings.{strings_of, count_in, is_over, source_of, destination_of, strings_access, with_count, is_continued, gprs_iterated, flags_iterated, byte_iterated, iterated, passed_over}
 use Rattle.core_step.specs.Pair.{pair_of, pair_write, pair_access, is_misaligned, is_equal, pair_at, pair_stored, byte_exchanged, exchanged, pair_left}
 use Rattle.core_step.specs.Plan.{next_of, core_plan, plan_by, plan_of, plan_accesses}
 use Rattle.core_step.specs.Access.{operand_access, kind_of, accesses_of, first_fault, fault_or}
-use Rattle.core_step.specs.Act.{value_of, old_value, bytes_of, byte_after, byte_left, destination_number, outcome_in, trapped, completed, done, plan_after, unless, performed_as, performed_row, performed, register_value}
+use Rattle.core_step.specs.Act.{value_of, old_value, byte_after, byte_left, destination_number, outcome_in, trapped, completed, done, plan_after, unless, performed_as, performed_row, performed, register_value}
 use Rattle.core_step.specs.Result.{outcome_of}
 use Rattle.core_step.specs.Machine.{accesses, accesses_by, AgreeOn, IsSame, IsLocal}
 use Rattle.core_step.proofs.Parts.{All-source, All-destination}
@@ -103,9 +105,9 @@ value_of_same kind (InMemory addr) size gprs memory other agree =
 value_of_same kind (Number number) size gprs memory other agree = refl
 
 -- where memories agree on the access of a destination, what stood there is the same; it counts only where it is read
-old_value_same : (use_of_it : Use) (operand : Operand) (size : Size) (gprs : List ℕ) (memory other : Memory)
-    → All (AgreeOn memory other) (operand_access (kind_of use_of_it) operand size)
-    → old_value use_of_it operand size gprs memory.byte ≡ old_value use_of_it operand size gprs other.byte
+old_value_same : (usage : Use) (operand : Operand) (size : Size) (gprs : List ℕ) (memory other : Memory)
+    → All (AgreeOn memory other) (operand_access (kind_of usage) operand size)
+    → old_value usage operand size gprs memory.byte ≡ old_value usage operand size gprs other.byte
 old_value_same Reads operand size gprs memory other agree = value_of_same _ operand size gprs memory other agree
 old_value_same Writes operand size gprs memory other agree = refl
 old_value_same Update operand size gprs memory other agree = value_of_same _ operand size gprs memory other agree
@@ -124,7 +126,7 @@ byte_after_same operand size None byte other at same = same
 byte_after_same Absent size (Some number) byte other at same = same
 byte_after_same (Register to) size (Some number) byte other at same = same
 byte_after_same (HighByte to) size (Some number) byte other at same = same
-byte_after_same (InMemory addr) size (Some number) byte other at same = written_same byte other addr (bytes_of size number) at same
+byte_after_same (InMemory addr) size (Some number) byte other at same = written_same byte other addr (number_bytes (bytes_in size) number) at same
 byte_after_same (Number to) size (Some number) byte other at same = same
 
 -- an outcome keeps each byte the same that was the same
@@ -184,7 +186,7 @@ string_gprs_same Movs size wrap32 down source destination gprs memory other agre
 string_gprs_same Cmps size wrap32 down source destination gprs memory other agree = refl
 string_gprs_same Stos size wrap32 down source destination gprs memory other agree = refl
 string_gprs_same Lods size wrap32 down source destination gprs memory other agree =
-    ap (λ (number : ℕ). passed 6 size wrap32 down (loaded size number gprs)) (number_same (reads source size) [] memory other agree)
+    ap (λ (number : ℕ). passed RSI size wrap32 down (with_register RAX (8 * size) number gprs)) (number_same (reads source size) [] memory other agree)
 string_gprs_same Scas size wrap32 down source destination gprs memory other agree = refl
 
 -- the flags after an iteration
@@ -200,7 +202,7 @@ string_flags_same Cmps size source destination gprs f memory other agree =
 string_flags_same Stos size source destination gprs f memory other agree = refl
 string_flags_same Lods size source destination gprs f memory other agree = refl
 string_flags_same Scas size source destination gprs f memory other agree =
-    ap (λ (b : ℕ). compared size (slice_index gprs 0) b f) (number_same (reads destination size) [] memory other agree)
+    ap (λ (b : ℕ). compared size (slice_index gprs RAX) b f) (number_same (reads destination size) [] memory other agree)
 
 -- a byte after an iteration
 string_byte_same : (op : StringOp) (size source destination : ℕ) (gprs : List ℕ) (memory other : Memory)
@@ -213,7 +215,7 @@ string_byte_same Movs size source destination gprs memory other agree at same =
     ∙ written_same memory.byte other.byte destination (bytes_at other.byte source size) at same
 string_byte_same Cmps size source destination gprs memory other agree at same = same
 string_byte_same Stos size source destination gprs memory other agree at same =
-    written_same memory.byte other.byte destination (little_bytes size (slice_index gprs 0 % 2 ^ (8 * size))) at same
+    written_same memory.byte other.byte destination (number_bytes size (slice_index gprs RAX)) at same
 string_byte_same Lods size source destination gprs memory other agree at same = same
 string_byte_same Scas size source destination gprs memory other agree at same = same
 

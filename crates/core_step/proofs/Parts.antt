@@ -4,7 +4,7 @@ use Rattle.std.specs.List.{All}
 use Rattle.std.proofs.lemmas.List.Elements.{All-nil, All-cons, All-head, All-tail}
 use Rattle.machine_state.specs.declared.kinds.Kind.TheVariants.{Read}
 use Rattle.core_step.specs.declared.kinds.Instruction.{Instruction}
-use Rattle.string_unit.specs.declared.kinds.Access.{Access}
+use Rattle.machine_state.specs.declared.kinds.Access.{Access}
 use Rattle.core_step.specs.Operands.{use_of}
 use Rattle.core_step.specs.Access.{operand_access, kind_of, accesses_of}
 

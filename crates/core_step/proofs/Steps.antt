@@ -19,7 +19,7 @@ use Rattle.core_step.specs.declared.kinds.Use.TheVariants.{Read, Write, Update}
 use Rattle.core_step.specs.declared.kinds.Instruction.{Instruction}
 use Rattle.core_step.specs.declared.kinds.Outcome.{Outcome}
 use Rattle.core_step.specs.declared.kinds.Plan.{Plan}
-use Rattle.string_unit.specs.declared.kinds.Access.{Access}
+use Rattle.machine_state.specs.declared.kinds.Access.{Access}
 use Rattle.core_step.specs.declared.kinds.Stop.{Stop}
 use Rattle.core_step.specs.Operands.{use_of}
 use Rattle.core_step.specs.Plan.{plan_of, plan_accesses}
@@ -171,7 +171,7 @@ state-is s t gprs flags rip extended fs gs steps perms byte = λ k. record {
 }
 
 -- no number goes to a destination where there is none
-number_for-none : (use_of_it : Use) → number_for use_of_it None ≡ None
+number_for-none : (usage : Use) → number_for usage None ≡ None
 number_for-none Read = refl
 number_for-none Write = refl
 number_for-none Update = refl

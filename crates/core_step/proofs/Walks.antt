@@ -9,7 +9,7 @@ use Rattle.core_step.specs.declared.kinds.Operand.TheVariants.{Memory}
 use Rattle.core_step.specs.declared.kinds.Use.{Use}
 use Rattle.core_step.specs.declared.kinds.Use.TheVariants.{Read as Reads, Write as Writes, Update}
 use Rattle.core_step.specs.declared.kinds.Instruction.{Instruction}
-use Rattle.string_unit.specs.declared.kinds.Access.{Access}
+use Rattle.machine_state.specs.declared.kinds.Access.{Access}
 use Rattle.string_unit.specs.Strings.{first_blocked}
 use Rattle.core_step.specs.declared.kinds.Stop.{Stop}
 use Rattle.core_step.specs.declared.kinds.PairPlan.{PairPlan}
@@ -92,7 +92,7 @@ map-result (Ok x) ok err h = ok x h
 map-result (Err y) ok err h = err y h
 
 -- a destination that a number goes to is accessed by a write
-pub written-kind : (use_of_it : Use) (number : Option ℕ) → (number_for use_of_it number ≡ None → ⊥) → kind_of use_of_it ≡ Write
+pub written-kind : (usage : Use) (number : Option ℕ) → (number_for usage number ≡ None → ⊥) → kind_of usage ≡ Write
 written-kind Reads number some = absurd (some refl)
 written-kind Writes number some = refl
 written-kind Update number some = refl

@@ -1,13 +1,14 @@
 -- A step of the machine, but for the answer of a system call and for the signal of a fault.
 use Rattle.std.specs.Prelude.{ℕ, ◌+◌, ◌/◌, ◌^◌, true, false, if◌then◌else◌, List, Option, Some, None, slice_get, slice_index, slice_set}
-use Rattle.byteorder.specs.Endian.{little_bytes}
 use Rattle.machine_state.specs.declared.kinds.Kind.TheVariants.{Execute}
 use Rattle.machine_state.specs.declared.kinds.Miss.{Miss}
 use Rattle.machine_state.specs.declared.kinds.Miss.TheVariants.{Unmapped, Denied, NonCanonical, Away}
 use Rattle.gpr_flags.specs.declared.kinds.Fault.{Fault}
 use Rattle.gpr_flags.specs.declared.kinds.Fault.TheVariants.{Undefined, General, Page}
-use Rattle.machine_state.specs.Memory.{first_miss, allowed_run, written}
+use Rattle.machine_state.specs.Memory.{first_miss, allowed_run, written, number_at, number_bytes}
 use Rattle.machine_state.specs.State.{State}
+use Rattle.gpr_flags.specs.Registers.{with_register}
+use Rattle.gpr_flags.specs.declared.registers.TheConstants.{RSP}
 use Rattle.row_table.specs.declared.kinds.Row.{Row}
 use Rattle.row_table.specs.declared.kinds.Decoded.{Decoded}
 use Rattle.row_table.specs.Rows.{rows}
@@ -26,8 +27,7 @@ use Rattle.core_step.specs.declared.kinds.Outcome.{Outcome}
 use Rattle.core_step.specs.declared.kinds.PairPlan.{PairPlan}
 use Rattle.core_step.specs.declared.kinds.Plan.{Plan}
 use Rattle.core_step.specs.declared.kinds.Plan.TheVariants.{Plain, OnStrings, OnPair}
-use Rattle.string_unit.specs.Strings.{number_at}
-use Rattle.core_step.specs.Size.{bytes_in, cut, register_with, with_high_byte}
+use Rattle.core_step.specs.Size.{bytes_in, bits_in, cut, with_high_byte}
 use Rattle.core_step.specs.Operands.{use_of}
 use Rattle.core_step.specs.Access.{first_fault}
 use Rattle.core_step.specs.Strings.{strings_left}
@@ -66,7 +66,7 @@ old_value Write operand size gprs byte = 0
 -- ---- where the numbers go
 abbrev pub gprs_with : Operand → Size → ℕ → List ℕ → List ℕ
 gprs_with Absent size number gprs = gprs
-gprs_with (Register to) size number gprs = slice_set gprs to (register_with size (slice_index gprs to) number)
+gprs_with (Register to) size number gprs = with_register to (bits_in size) number gprs
 gprs_with (HighByte to) size number gprs = slice_set gprs to (with_high_byte (slice_index gprs to) number)
 gprs_with (Memory addr) size number gprs = gprs
 gprs_with (Number other) size number gprs = gprs
@@ -76,12 +76,8 @@ abbrev pub gprs_after : Operand → Size → Option ℕ → List ℕ → List �
 gprs_after operand size None gprs = gprs
 gprs_after operand size (Some number) gprs = gprs_with operand size number gprs
 
--- the lowest bytes of a number, as many as the size has, the lowest first
-abbrev pub bytes_of : Size → ℕ → List ℕ
-bytes_of size number = little_bytes (bytes_in size) (cut size number)
-
 abbrev pub byte_with : Operand → Size → ℕ → (ℕ → ℕ) → ℕ → ℕ
-byte_with (Memory addr) size number byte = written byte addr (bytes_of size number)
+byte_with (Memory addr) size number byte = written byte addr (number_bytes (bytes_in size) number)
 byte_with Absent size number byte = byte
 byte_with (Register to) size number byte = byte
 byte_with (HighByte to) size number byte = byte
@@ -95,7 +91,7 @@ byte_after operand size (Some number) byte = byte_with operand size number byte
 -- the new rsp, where there is one
 abbrev pub gprs_stacked : Option ℕ → List ℕ → List ℕ
 gprs_stacked None gprs = gprs
-gprs_stacked (Some rsp) gprs = slice_set gprs 4 rsp
+gprs_stacked (Some rsp) gprs = slice_set gprs RSP rsp
 
 -- what goes to a destination; one that is only read gets nothing
 abbrev pub number_for : Use → Option ℕ → Option ℕ

@@ -2,6 +2,7 @@
 use Rattle.std.specs.Prelude.{ℕ, ℤ, ◌+◌, ◌*◌, ◌/◌, ◌%◌, ◌^◌, ◌==◌, Bool, ◌&&◌, nat_lt, if◌then◌else◌, List, slice_index}
 use Rattle.std.specs.Option.{unwrap_or}
 use Rattle.std.specs.Int.{w64, cast_unsigned}
+use Rattle.gpr_flags.specs.declared.registers.TheConstants.{RSP}
 use Rattle.row_table.specs.declared.kinds.Fields.{Fields}
 use Rattle.core_step.specs.declared.kinds.Bases.{Bases}
 
@@ -45,9 +46,9 @@ sib_index f = 8 * f.x + sib_of f / 8 % 8
 abbrev pub sib_base : Fields → ℕ
 sib_base f = 8 * f.b + sib_of f % 8
 
--- a register as an address has it, where register 4, rsp, counts as it is given
+-- a register as an address has it, where rsp counts as it is given
 abbrev pub register_for : List ℕ → Bases → ℕ → ℕ
-register_for gprs bases number = if number == 4 then bases.rsp else slice_index gprs number
+register_for gprs bases number = if number == RSP then bases.rsp else slice_index gprs number
 
 -- the base: with mod 0, a SIB base 5 is none, and r/m 5 is the end of the instruction (SDM volume 2, 2.2.1.6 and tables 2-2
 -- and 2-3)

@@ -1,5 +1,6 @@
 -- An instruction with its operands found: which row it is, where its destination and its source are, and their sizes.
 use Rattle.std.specs.Prelude.{true, false, ℕ, ℤ, ◌+◌, ◌-◌, ◌*◌, ◌/◌, ◌%◌, ◌^◌, ◌==◌, ◌&&◌, Bool, not, nat_le, nat_lt, if◌then◌else◌, List, slice_index}
+use Rattle.gpr_flags.specs.declared.registers.TheConstants.{RAX, RCX, RDX, RSP, RBP, R11}
 use Rattle.row_table.specs.declared.kinds.Operands.{Operands}
 use Rattle.row_table.specs.declared.kinds.Operands.TheVariants.{OpcodeReg, RaxOpcodeReg, OpcodeRegIb, OpcodeRegIv, Ib, Iw, Iz, Jb, Jz, AlIb, RaxIz, AlOb, RaxOv, ObAl, OvRax, Eb, Ev, EbGb, EvGv, GbEb, GvEv, GvEb, GvEw, GvEd, EbIb, EvIb, EvIz, EbOne, EvOne, EbCl, EvCl, GvEvIb, GvEvIz, EvGvIb, EvGvCl, GvM, MvGv, M}
 use Rattle.row_table.specs.declared.kinds.Row.{Row}
@@ -144,11 +145,11 @@ operand_at Reg size f disp gprs bases = general size f (reg_number f)
 operand_at Rm size f disp gprs bases =
     if is_memory f then Memory (address_of f disp gprs bases) else general size f (rm_number f)
 operand_at InOpcode size f disp gprs bases = general size f (opcode_number f)
-operand_at Rax size f disp gprs bases = Register 0
+operand_at Rax size f disp gprs bases = Register RAX
 operand_at Offset size f disp gprs bases = Memory (in_segment f bases f.imm)
 operand_at Immediate size f disp gprs bases = Number (immediate_of f)
 operand_at One size f disp gprs bases = Number 1
-operand_at Cl size f disp gprs bases = Register 1
+operand_at Cl size f disp gprs bases = Register RCX
 operand_at Relative size f disp gprs bases = Number ((bases.next + immediate_of f) % 2 ^ 64)
 
 -- ---- what an instruction does and how wide it is
@@ -260,10 +261,10 @@ wide_of (Gpr op) operands = gpr_wide op operands
 wide_of op operands = false
 
 abbrev pub upper_half : Size → Operand
-upper_half Byte = HighByte 0
-upper_half Word = Register 2
-upper_half Double = Register 2
-upper_half Quad = Register 2
+upper_half Byte = HighByte RAX
+upper_half Word = Register RDX
+upper_half Double = Register RDX
+upper_half Quad = Register RDX
 
 -- ---- bits of strings of bits in memory
 -- the place of the operand that holds a bit: as many operands away as the register, with its sign, says when it is divided by
@@ -305,24 +306,24 @@ raised address count = (address + count) % 2 ^ 64
 
 -- where the stack's operand is: below rsp for what is pushed, at rsp for what is popped, and LEAVE pops at rbp
 unfoldable pub core_stack : CoreOp → Size → List ℕ → ℕ
-core_stack Push size gprs = lowered (slice_index gprs 4) (bytes_in size)
-core_stack Pushf size gprs = lowered (slice_index gprs 4) (bytes_in size)
-core_stack Call size gprs = lowered (slice_index gprs 4) (bytes_in size)
-core_stack Leave size gprs = slice_index gprs 5
-core_stack op size gprs = slice_index gprs 4
+core_stack Push size gprs = lowered (slice_index gprs RSP) (bytes_in size)
+core_stack Pushf size gprs = lowered (slice_index gprs RSP) (bytes_in size)
+core_stack Call size gprs = lowered (slice_index gprs RSP) (bytes_in size)
+core_stack Leave size gprs = slice_index gprs RBP
+core_stack op size gprs = slice_index gprs RSP
 
 abbrev pub stack_of : Op → Size → List ℕ → ℕ
 stack_of (Core op) size gprs = core_stack op size gprs
-stack_of op size gprs = slice_index gprs 4
+stack_of op size gprs = slice_index gprs RSP
 
 -- rsp for addresses: POP to memory counts with the raised one (SDM volume 2, POP)
 abbrev pub core_rsp : CoreOp → Size → List ℕ → ℕ
-core_rsp Pop size gprs = raised (slice_index gprs 4) (bytes_in size)
-core_rsp op size gprs = slice_index gprs 4
+core_rsp Pop size gprs = raised (slice_index gprs RSP) (bytes_in size)
+core_rsp op size gprs = slice_index gprs RSP
 
 abbrev pub rsp_for : Op → Size → List ℕ → ℕ
 rsp_for (Core op) size gprs = core_rsp op size gprs
-rsp_for op size gprs = slice_index gprs 4
+rsp_for op size gprs = slice_index gprs RSP
 
 -- ---- destination and source, where an operation says more than its row's operands
 -- a push goes to the stack; the count is rcx; LEAVE pops rbp; what is converted is rAX; the results of RDTSC go to rax and rdx,
@@ -331,23 +332,23 @@ unfoldable pub core_destination : CoreOp → Operand → ℕ → Operand
 core_destination Push spelled stack = Memory stack
 core_destination Pushf spelled stack = Memory stack
 core_destination Call spelled stack = Memory stack
-core_destination Leave spelled stack = Register 5
-core_destination Loopne spelled stack = Register 1
-core_destination Loope spelled stack = Register 1
-core_destination Loop spelled stack = Register 1
-core_destination Jrcxz spelled stack = Register 1
-core_destination Cbw spelled stack = Register 0
-core_destination Cwd spelled stack = Register 2
-core_destination Lahf spelled stack = HighByte 0
-core_destination Syscall spelled stack = Register 1
-core_destination Rdtsc spelled stack = Register 0
+core_destination Leave spelled stack = Register RBP
+core_destination Loopne spelled stack = Register RCX
+core_destination Loope spelled stack = Register RCX
+core_destination Loop spelled stack = Register RCX
+core_destination Jrcxz spelled stack = Register RCX
+core_destination Cbw spelled stack = Register RAX
+core_destination Cwd spelled stack = Register RDX
+core_destination Lahf spelled stack = HighByte RAX
+core_destination Syscall spelled stack = Register RCX
+core_destination Rdtsc spelled stack = Register RAX
 core_destination Jmp spelled stack = Absent
 core_destination Nop spelled stack = Absent
 core_destination op spelled stack = spelled
 
 abbrev pub destination_of : Op → (wide far : Bool) → (spelled bit : Operand) → (stack : ℕ) → Operand
 destination_of (Core op) wide far spelled bit stack = core_destination op spelled stack
-destination_of (Gpr op) wide far spelled bit stack = if wide then Register 0 else spelled
+destination_of (Gpr op) wide far spelled bit stack = if wide then Register RAX else spelled
 destination_of (Bit op) wide far spelled bit stack = if far then bit else spelled
 destination_of op wide far spelled bit stack = spelled
 
@@ -361,9 +362,9 @@ core_source Push spelled sole stack offset = sole
 core_source Call spelled sole stack offset = sole
 core_source Jmp spelled sole stack offset = sole
 core_source Lea spelled sole stack offset = Number offset
-core_source Cbw spelled sole stack offset = Register 0
-core_source Cwd spelled sole stack offset = Register 0
-core_source Sahf spelled sole stack offset = HighByte 0
+core_source Cbw spelled sole stack offset = Register RAX
+core_source Cwd spelled sole stack offset = Register RAX
+core_source Sahf spelled sole stack offset = HighByte RAX
 core_source Syscall spelled sole stack offset = Absent
 core_source Rdtsc spelled sole stack offset = Absent
 core_source Nop spelled sole stack offset = Absent
@@ -379,9 +380,9 @@ source_of op wide spelled sole stack offset = spelled
 unfoldable pub core_third : CoreOp → (source : Operand) → Operand
 core_third Xchg source = source
 core_third Xadd source = source
-core_third Cmpxchg source = Register 0
-core_third Rdtsc source = Register 2
-core_third Syscall source = Register 11
+core_third Cmpxchg source = Register RAX
+core_third Rdtsc source = Register RDX
+core_third Syscall source = Register R11
 core_third op source = Absent
 
 -- a product of two operands takes its destination as the other factor

@@ -1,19 +1,20 @@
 -- CMPXCHG8B and CMPXCHG16B (SDM volume 2, CMPXCHG8B/CMPXCHG16B).
-use Rattle.std.specs.Prelude.{ℕ, ◌+◌, ◌*◌, ◌/◌, ◌%◌, ◌^◌, ◌==◌, Bool, true, false, not, ◌&&◌, if◌then◌else◌, List, [], ◌∷◌, slice_index, slice_set}
+use Rattle.std.specs.Prelude.{ℕ, ◌+◌, ◌*◌, ◌/◌, ◌%◌, ◌^◌, ◌==◌, Bool, true, false, not, ◌&&◌, if◌then◌else◌, List, [], ◌∷◌, slice_index}
 use Rattle.byteorder.specs.Endian.{little_bytes}
 use Rattle.machine_state.specs.declared.kinds.Kind.TheVariants.{Write}
-use Rattle.machine_state.specs.Memory.{written}
+use Rattle.machine_state.specs.Memory.{written, number_at}
 use Rattle.machine_state.specs.State.{State}
+use Rattle.gpr_flags.specs.Registers.{with_register}
+use Rattle.gpr_flags.specs.declared.registers.TheConstants.{RAX, RCX, RDX, RBX}
 use Rattle.row_table.specs.declared.kinds.Row.{Row}
 use Rattle.row_table.specs.declared.kinds.Decoded.{Decoded}
 use Rattle.row_table.specs.declared.operations.Op.TheVariants.{Core}
 use Rattle.row_table.specs.declared.operations.CoreOp.TheVariants.{Cmpxchg8b}
-use Rattle.string_unit.specs.declared.kinds.Access.{Access}
-use Rattle.string_unit.specs.Strings.{number_at}
+use Rattle.machine_state.specs.declared.kinds.Access.{Access}
 use Rattle.core_step.specs.declared.kinds.Size.{Size}
 use Rattle.core_step.specs.declared.kinds.Size.TheVariants.{Byte, Word, Double, Quad}
 use Rattle.core_step.specs.declared.kinds.PairPlan.{PairPlan}
-use Rattle.core_step.specs.Size.{bytes_in, bits_in, cut, register_with}
+use Rattle.core_step.specs.Size.{bytes_in, bits_in, cut}
 use Rattle.core_step.specs.Address.{address_of}
 use Rattle.core_step.specs.Operands.{bases_for}
 
@@ -61,20 +62,17 @@ pair_at i byte = number_at byte i.addr (pair_bytes i)
 
 -- whether that is rdx and rax
 abbrev pub is_equal : Size → (found : ℕ) → List ℕ → Bool
-is_equal half found gprs = found == joined half (slice_index gprs 2) (slice_index gprs 0)
-
--- the registers with a number in one of them
-abbrev pub put_in : (to : ℕ) → Size → (number : ℕ) → List ℕ → List ℕ
-put_in to size number gprs = slice_set gprs to (register_with size (slice_index gprs to) number)
+is_equal half found gprs = found == joined half (slice_index gprs RDX) (slice_index gprs RAX)
 
 -- the registers with the two halves of a number in rdx and rax
 abbrev pub pair_loaded : Size → (found : ℕ) → List ℕ → List ℕ
-pair_loaded half found gprs = put_in 2 half (cut half (found / 2 ^ bits_in half)) (put_in 0 half (cut half found) gprs)
+pair_loaded half found gprs =
+    with_register RDX (bits_in half) (cut half (found / 2 ^ bits_in half)) (with_register RAX (bits_in half) (cut half found) gprs)
 
 -- what goes to memory: rcx and rbx
 abbrev pub pair_stored : PairPlan → List ℕ → (ℕ → ℕ) → ℕ → ℕ
 pair_stored i gprs byte =
-    written byte i.addr (little_bytes (pair_bytes i) (joined i.half (slice_index gprs 1) (slice_index gprs 3)))
+    written byte i.addr (little_bytes (pair_bytes i) (joined i.half (slice_index gprs RCX) (slice_index gprs RBX)))
 
 unfoldable pub gprs_exchanged : PairPlan → (found : ℕ) → List ℕ → List ℕ
 gprs_exchanged i found gprs = if is_equal i.half found gprs then gprs else pair_loaded i.half found gprs

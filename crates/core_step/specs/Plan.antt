@@ -7,7 +7,7 @@ use Rattle.row_table.specs.declared.operations.Op.TheVariants.{Core, String}
 use Rattle.row_table.specs.declared.operations.CoreOp.{CoreOp}
 use Rattle.row_table.specs.declared.operations.CoreOp.TheVariants.{Cmpxchg8b}
 use Rattle.machine_state.specs.State.{State}
-use Rattle.string_unit.specs.declared.kinds.Access.{Access}
+use Rattle.machine_state.specs.declared.kinds.Access.{Access}
 use Rattle.core_step.specs.declared.kinds.Plan.{Plan}
 use Rattle.core_step.specs.declared.kinds.Plan.TheVariants.{Plain, OnStrings, OnPair}
 use Rattle.core_step.specs.Operands.{instruction_of}

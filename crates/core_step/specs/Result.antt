@@ -1,6 +1,5 @@
 -- What comes of each instruction, from the numbers of its destination and its source: the scalar result.
-use Rattle.std.specs.Prelude.{ℕ, ◌+◌, ◌-◌, ◌*◌, ◌/◌, ◌%◌, ◌^◌, ◌==◌, Bool, true, false, not, ◌&&◌, if◌then◌else◌, Some, None}
-use Rattle.std.specs.Int.{w16, w32, w64, swap_bytes}
+use Rattle.std.specs.Prelude.{ℕ, ◌+◌, ◌-◌, ◌/◌, ◌%◌, ◌^◌, ◌==◌, Bool, true, false, not, ◌&&◌, if◌then◌else◌, Some, None}
 use Rattle.gpr_flags.specs.declared.kinds.Fault.{Fault}
 use Rattle.gpr_flags.specs.declared.kinds.Fault.TheVariants.{Divide, Breakpoint, Undefined, General}
 use Rattle.gpr_flags.specs.declared.kinds.Flags.{Flags}
@@ -21,10 +20,9 @@ use Rattle.bit_units.specs.Shifts.{shift_value, shift_flags}
 use Rattle.bit_units.specs.Bits.{bits_value, bits_flags}
 use Rattle.core_step.specs.declared.acted.Acted.TheVariants.{Done, Call as Calls, Trap}
 use Rattle.core_step.specs.declared.kinds.Size.{Size}
-use Rattle.core_step.specs.declared.kinds.Size.TheVariants.{Byte, Word, Double, Quad}
 use Rattle.core_step.specs.declared.kinds.Instruction.{Instruction}
 use Rattle.core_step.specs.declared.kinds.Outcome.{Outcome}
-use Rattle.core_step.specs.Size.{bytes_in, cut, is_negative, sign_extended}
+use Rattle.core_step.specs.Size.{bytes_in, bits_in, cut, is_negative, sign_extended}
 use Rattle.core_step.specs.Operands.{raised}
 
 -- ---- flags
@@ -35,10 +33,7 @@ with_low_flags f word = record (flags_of word) { df = f.df; ovf = f.ovf }
 -- ---- numbers
 -- the bytes in the other order (SDM volume 2, BSWAP and MOVBE)
 abbrev pub reversed : Size → ℕ → ℕ
-reversed Byte number = number
-reversed Word number = swap_bytes w16 number
-reversed Double number = swap_bytes w32 number
-reversed Quad number = swap_bytes w64 number
+reversed size number = bits_value (Core Bswap) (bits_in size) number 0
 
 -- all bits are the sign's (SDM volume 2, CWD)
 abbrev pub sign_bits : Size → ℕ → ℕ
@@ -109,14 +104,14 @@ unperformed i flags = faults Undefined i flags
 -- a sum goes to the destination, and what stood there to the source (SDM volume 2, XADD)
 abbrev pub exchanges_sum : Instruction → (a b : ℕ) → Flags → Outcome
 exchanges_sum i a b flags =
-    record (gives (alu_value (Gpr Add) (8 * bytes_in i.size) a b flags) i (alu_flags (Gpr Add) (8 * bytes_in i.size) a b flags)) {
+    record (gives (alu_value (Gpr Add) (bits_in i.size) a b flags) i (alu_flags (Gpr Add) (bits_in i.size) a b flags)) {
       third = Some a;
     }
 
 -- rAX is compared with the destination: the source goes there where they are equal, and else the destination to rAX (SDM
 -- volume 2, CMPXCHG)
 abbrev pub compares : Instruction → (a b c : ℕ) → Flags → Outcome
-compares i a b c flags = record (passes i (alu_flags (Gpr Cmp) (8 * bytes_in i.size) c a flags)) {
+compares i a b c flags = record (passes i (alu_flags (Gpr Cmp) (bits_in i.size) c a flags)) {
   destination = if c == a then Some b else None;
   third = if c == a then None else Some a;
 }
@@ -171,22 +166,22 @@ core_outcome _ i a b c flags steps = unperformed i flags
 -- IMUL)
 abbrev pub multiplies_wide : (signed : Bool) → Instruction → (a b : ℕ) → Flags → Outcome
 multiplies_wide signed i a b flags =
-    let product = product_of signed (8 * bytes_in i.size) a b in
-    record (gives (low_half (8 * bytes_in i.size) product) i (product_flags signed (8 * bytes_in i.size) product flags)) {
-      third = Some (high_half (8 * bytes_in i.size) product);
+    let product = product_of signed (bits_in i.size) a b in
+    record (gives (low_half (bits_in i.size) product) i (product_flags signed (bits_in i.size) product flags)) {
+      third = Some (high_half (bits_in i.size) product);
     }
 
 abbrev pub multiplies : Instruction → (a b : ℕ) → Flags → Outcome
 multiplies i a b flags =
-    let product = product_of true (8 * bytes_in i.size) a b in
-    gives (low_half (8 * bytes_in i.size) product) i (product_flags true (8 * bytes_in i.size) product flags)
+    let product = product_of true (bits_in i.size) a b in
+    gives (low_half (bits_in i.size) product) i (product_flags true (bits_in i.size) product flags)
 
 -- the quotient goes to rAX and the remainder to rDX or AH; the dividend's upper half was there (SDM volume 2, DIV and IDIV)
 abbrev pub divides : (signed : Bool) → Instruction → (high low by : ℕ) → Flags → Outcome
 divides signed i high low by flags =
-    if is_refused signed (8 * bytes_in i.size) high low by then faults Divide i flags
-    else record (gives (low_of (8 * bytes_in i.size) (quotient_of signed (8 * bytes_in i.size) high low by)) i flags) {
-      third = Some (low_of (8 * bytes_in i.size) (remainder_of signed (8 * bytes_in i.size) high low by));
+    if is_refused signed (bits_in i.size) high low by then faults Divide i flags
+    else record (gives (low_of (bits_in i.size) (quotient_of signed (bits_in i.size) high low by)) i flags) {
+      third = Some (low_of (bits_in i.size) (remainder_of signed (bits_in i.size) high low by));
     }
 
 -- arithmetic: a value and its flags; the value counts only where the destination is written
@@ -197,18 +192,18 @@ gpr_outcome Div i a b c flags = divides false i c a b flags
 gpr_outcome Idiv i a b c flags = divides true i c a b flags
 gpr_outcome Mulx i a b c flags = unperformed i flags
 gpr_outcome op i a b c flags =
-    gives (alu_value (Gpr op) (8 * bytes_in i.size) a b flags) i (alu_flags (Gpr op) (8 * bytes_in i.size) a b flags)
+    gives (alu_value (Gpr op) (bits_in i.size) a b flags) i (alu_flags (Gpr op) (bits_in i.size) a b flags)
 
 -- a shift or a rotate by the low byte of a count, where b is the second operand of a double shift
 abbrev pub shifts : BitOp → Instruction → (a b count : ℕ) → Flags → Outcome
 shifts op i a b count flags =
-    gives (shift_value (Bit op) (8 * bytes_in i.size) a b (count % 256) flags) i
-    (shift_flags (Bit op) (8 * bytes_in i.size) a b (count % 256) flags)
+    gives (shift_value (Bit op) (bits_in i.size) a b (count % 256) flags) i
+    (shift_flags (Bit op) (bits_in i.size) a b (count % 256) flags)
 
 -- where the source is 0 the destination stays, with all its bits (SDM volume 2, BSF and BSR)
 abbrev pub scans : BitOp → Instruction → (a b : ℕ) → Flags → Outcome
-scans op i a b flags = record (passes i (bits_flags (Bit op) (8 * bytes_in i.size) a b flags)) {
-  destination = if b == 0 then None else Some (bits_value (Bit op) (8 * bytes_in i.size) a b);
+scans op i a b flags = record (passes i (bits_flags (Bit op) (bits_in i.size) a b flags)) {
+  destination = if b == 0 then None else Some (bits_value (Bit op) (bits_in i.size) a b);
 }
 
 -- shifts, rotates, and operations on bits
@@ -225,7 +220,7 @@ bit_outcome Shrd i a b c flags = shifts Shrd i a b c flags
 bit_outcome Bsf i a b c flags = scans Bsf i a b flags
 bit_outcome Bsr i a b c flags = scans Bsr i a b flags
 bit_outcome op i a b c flags =
-    gives (bits_value (Bit op) (8 * bytes_in i.size) a b) i (bits_flags (Bit op) (8 * bytes_in i.size) a b flags)
+    gives (bits_value (Bit op) (bits_in i.size) a b) i (bits_flags (Bit op) (bits_in i.size) a b flags)
 
 abbrev pub outcome_by : Op → Instruction → (a b c : ℕ) → Flags → (steps : ℕ) → Outcome
 outcome_by (Core op) i a b c flags steps = core_outcome op i a b c flags steps

@@ -10,10 +10,7 @@ bytes_in Double = 4
 bytes_in Quad = 8
 
 abbrev pub bits_in : Size → ℕ
-bits_in Byte = 8
-bits_in Word = 16
-bits_in Double = 32
-bits_in Quad = 64
+bits_in size = 8 * bytes_in size
 
 -- the low bits of a number, as many as the size has
 abbrev pub cut : Size → ℕ → ℕ
@@ -33,14 +30,6 @@ half_of Byte = Byte
 half_of Word = Byte
 half_of Double = Word
 half_of Quad = Double
-
--- a register where a number of some size was written to it: 8 and 16 bits leave the others, 32 bits clear the upper half
--- (SDM volume 1, 3.4.1.1)
-abbrev pub register_with : Size → ℕ → ℕ → ℕ
-register_with Byte old number = old / 2 ^ 8 * 2 ^ 8 + number % 2 ^ 8
-register_with Word old number = old / 2 ^ 16 * 2 ^ 16 + number % 2 ^ 16
-register_with Double old number = number % 2 ^ 32
-register_with Quad old number = number % 2 ^ 64
 
 -- a register with other bits 8 to 15
 abbrev pub with_high_byte : ℕ → ℕ → ℕ

@@ -1,19 +1,27 @@
 -- MOVS, CMPS, STOS, LODS and SCAS with their prefixes: one iteration, or none where the count is 0 (SDM volume 2,
 -- REP/REPE/REPZ/REPNE/REPNZ, and the pages of these instructions).
-use Rattle.std.specs.Prelude.{ℕ, ◌+◌, ◌-◌, ◌%◌, ◌^◌, ◌==◌, Bool, true, not, ◌&&◌, if◌then◌else◌, List, [], slice_index, slice_set}
+use Rattle.std.specs.Prelude.{ℕ, ◌+◌, ◌-◌, ◌%◌, ◌^◌, ◌==◌, Bool, true, false, not, ◌&&◌, if◌then◌else◌, List, [], slice_index, slice_set}
 use Rattle.gpr_flags.specs.declared.kinds.Flags.{Flags}
+use Rattle.gpr_flags.specs.declared.registers.TheConstants.{RCX}
 use Rattle.row_table.specs.declared.kinds.Row.{Row}
+use Rattle.row_table.specs.declared.kinds.Fields.{Fields}
 use Rattle.row_table.specs.declared.kinds.Decoded.{Decoded}
 use Rattle.row_table.specs.declared.operations.Op.TheVariants.{String}
 use Rattle.row_table.specs.declared.operations.StringOp.{StringOp}
 use Rattle.row_table.specs.declared.operations.StringOp.TheVariants.{Cmps, Scas}
 use Rattle.machine_state.specs.State.{State}
-use Rattle.string_unit.specs.declared.kinds.Access.{Access}
+use Rattle.machine_state.specs.declared.kinds.Access.{Access}
 use Rattle.string_unit.specs.Strings.{place_bits, source_place, destination_place, string_accesses, string_gprs, string_flags, string_byte}
+use Rattle.core_step.specs.declared.kinds.Repeat.{Repeat}
+use Rattle.core_step.specs.declared.kinds.Repeat.TheVariants.{Once, WhileEqual, WhileUnequal}
 use Rattle.core_step.specs.declared.kinds.StringPlan.{StringPlan}
 use Rattle.core_step.specs.Size.{bytes_in}
 use Rattle.core_step.specs.Address.{segment_base}
 use Rattle.core_step.specs.Operands.{row_size, bases_for}
+
+-- what the last of the prefixes F2 and F3 says
+abbrev pub repeat_of : Fields → Repeat
+repeat_of f = if f.rep == 0xF3 then WhileEqual else if f.rep == 0xF2 then WhileUnequal else Once
 
 -- the instruction of a row and its fields; with prefix 67 esi, edi and ecx count
 unfoldable pub strings_of : StringOp → Row → Decoded → (next : ℕ) → State → StringPlan
@@ -22,21 +30,23 @@ strings_of op row d next s = record {
   size = row_size row d.fields;
   wrap32 = d.fields.p67;
   base = segment_base d.fields (bases_for (String op) (row_size row d.fields) s next);
-  rep = d.fields.rep;
+  repeat = repeat_of d.fields;
   next = next;
 }
 
 -- F2 and F3 repeat it
-abbrev pub is_repeated : StringPlan → Bool
-is_repeated i = not (i.rep == 0)
+abbrev pub is_repeated : Repeat → Bool
+is_repeated Once = false
+is_repeated WhileEqual = true
+is_repeated WhileUnequal = true
 
 -- the count: rcx, or ecx
 abbrev pub count_in : StringPlan → List ℕ → ℕ
-count_in i gprs = slice_index gprs 1 % 2 ^ place_bits i.wrap32
+count_in i gprs = slice_index gprs RCX % 2 ^ place_bits i.wrap32
 
 -- a repeated instruction whose count is 0 does nothing
 abbrev pub is_over : StringPlan → List ℕ → Bool
-is_over i gprs = is_repeated i && count_in i gprs == 0
+is_over i gprs = is_repeated i.repeat && count_in i gprs == 0
 
 -- the places of the operands
 abbrev pub source_of : StringPlan → List ℕ → ℕ
@@ -53,17 +63,23 @@ strings_access i gprs =
 -- ---- an iteration
 -- the registers with a count that is one less; the upper half of rcx is cleared with prefix 67
 abbrev pub with_count : StringPlan → (count : ℕ) → List ℕ → List ℕ
-with_count i count gprs = if is_repeated i then slice_set gprs 1 (count - 1) else gprs
+with_count i count gprs = if is_repeated i.repeat then slice_set gprs RCX (count - 1) else gprs
 
--- CMPS and SCAS go on while ZF is set with F3, and while it is clear with F2; the others do with either
-unfoldable pub goes_on : StringOp → (rep : ℕ) → Flags → Bool
-goes_on Cmps rep flags = if rep == 0xF3 then flags.zf else not flags.zf
-goes_on Scas rep flags = if rep == 0xF3 then flags.zf else not flags.zf
-goes_on op rep flags = true
+-- whether the flags of a comparison let it be repeated
+abbrev pub is_met : Repeat → Flags → Bool
+is_met Once flags = false
+is_met WhileEqual flags = flags.zf
+is_met WhileUnequal flags = not flags.zf
+
+-- that counts for CMPS and SCAS alone
+unfoldable pub goes_on : StringOp → Repeat → Flags → Bool
+goes_on Cmps repeat flags = is_met repeat flags
+goes_on Scas repeat flags = is_met repeat flags
+goes_on op repeat flags = true
 
 -- whether another iteration follows, by the count before this one and the flags after it
 abbrev pub is_continued : StringPlan → (count : ℕ) → Flags → Bool
-is_continued i count flags = is_repeated i && (not (count - 1 == 0) && goes_on i.op i.rep flags)
+is_continued i count flags = is_repeated i.repeat && (not (count - 1 == 0) && goes_on i.op i.repeat flags)
 
 unfoldable pub gprs_iterated : StringPlan → State → List ℕ
 gprs_iterated i s =

@@ -3,7 +3,7 @@ ghost use Rattle.std.specs.Prelude.{◌≡◌, ◌<◌, ◌%◌, ◌^◌};
 ghost use Rattle.core_step.specs.Address.{modrm_of, mod_of, is_memory as names_memory, reg_number, rm_number, opcode_number, sib_of, has_sib as has_sib_byte, sib_index, sib_base, scale_of, register_for, base_of, scaled_index as index_of, wrapped, offset_of, segment_base as base_of_segment, in_segment as segmented, address_of};
 
 use crate::kinds::Bases;
-use gpr_flags::Gprs;
+use gpr_flags::{Gprs, RSP};
 use row_table::Fields;
 
 /// The ModRM byte, or 0.
@@ -65,7 +65,7 @@ fn register(gprs: &Gprs, bases: Bases, number: u8) -> u64
     requires { number < 16 }
     ensures { result ≡ register_for gprs.now bases number }
 {
-    if number == 4 {
+    if number == RSP {
         bases.rsp
     } else {
         gprs.get(number)

@@ -104,6 +104,17 @@ pub struct Instruction {
     pub next: u64,
 }
 
+/// How often an instruction on strings is performed, by its prefix (SDM volume 2, REP/REPE/REPZ/REPNE/REPNZ).
+#[derive(Clone, Copy, Debug, PartialEq, Eq)]
+pub enum Repeat {
+    /// Once: it has no prefix F2 or F3.
+    Once,
+    /// As often as rcx says, and CMPS and SCAS only while their operands are equal: F3.
+    WhileEqual,
+    /// As often as rcx says, and CMPS and SCAS only while their operands are unequal: F2.
+    WhileUnequal,
+}
+
 /// An instruction on strings, with its prefixes.
 #[derive(Clone, Copy)]
 pub struct StringPlan {
@@ -114,8 +125,7 @@ pub struct StringPlan {
     pub wrap32: bool,
     /// The base of the segment of the operand at rsi.
     pub base: u64,
-    /// The last of the prefixes F2 and F3, or 0.
-    pub rep: u8,
+    pub repeat: Repeat,
     /// Where the next instruction stands.
     pub next: u64,
 }

@@ -3,7 +3,6 @@
 //! the numbers that come of it are worked out, and these are put to their places.
 #![tactic(auto)]
 
-mod accesses;
 mod acted;
 mod addressing;
 mod fetching;
@@ -20,6 +19,7 @@ mod strings;
 #[cfg(test)]
 mod tests;
 mod values;
+mod walking;
 
 pub use acted::Acted;
 pub use fetching::Fetched;

@@ -17,7 +17,6 @@ ghost use Rattle.core_step.specs.Fits.{InstructionFits, PlanFits};
 ghost use Rattle.core_step.specs.Fetch.{NeedsPage, IsFetched, IsFetchFit};
 ghost use Rattle.core_step.specs.Machine.{IsWhole, IsKept, IsLocal, IsFramed, accesses, needed, state_of, after_of};
 
-use crate::accesses::{answer, check_all};
 use crate::acted::Acted;
 use crate::fetching::{Fetched, outcome as fetched, read_run};
 use crate::kinds::{Instruction, Outcome, PairPlan, Plan, StringPlan};
@@ -26,6 +25,7 @@ use crate::pair::{exchange_memory, exchange_registers, is_equal, is_misaligned, 
 use crate::results::outcome;
 use crate::strings::{count, is_over, iterate_once, lower_count, rip_after};
 use crate::values::{move_stack, number_for, old_value, put, put_register, register_value, value};
+use crate::walking::{answer, check_all};
 use gpr_flags::{Fault, Flags, Gprs};
 use guest_pages::Pages;
 use machine_state::Kind;
@@ -194,8 +194,8 @@ impl Machine {
         ensures pages { KeepsTable self.old.pages self.new.pages }
         ensures counted { self.new.steps ≡ steps_after result self.old.steps }
     {
-        let use_of_it = destination_use(i.op);
-        let a = old_value(use_of_it, i.destination, i.size, &self.gprs, &self.pages);
+        let usage = destination_use(i.op);
+        let a = old_value(usage, i.destination, i.size, &self.gprs, &self.pages);
         let b = value(i.source, i.source_size, Kind::Read, &self.gprs, &self.pages);
         let c = register_value(i.third, i.third_size, &self.gprs);
         let outcome = outcome(i, a, b, c, self.flags, self.steps);

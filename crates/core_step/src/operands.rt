@@ -6,7 +6,7 @@ ghost use Rattle.core_step.specs.Fits.{OperandFits};
 
 use crate::addressing::{address, in_segment, is_memory, offset, opcode_reg, reg, rm, wrap};
 use crate::kinds::{Bases, Operand, Size, Spot, Use};
-use gpr_flags::Gprs;
+use gpr_flags::{Gprs, RAX, RBP, RCX, RDX, RSP};
 use row_table::{BitOp, CoreOp, Fields, GprOp, Op, Operands, Row};
 
 /// Where the first operand of a row stands, which is the destination.
@@ -165,11 +165,11 @@ pub(crate) fn operand(
             }
         }
         Spot::OpcodeReg => register(size, fields, opcode_reg(fields)),
-        Spot::Rax => Operand::Register(0),
+        Spot::Rax => Operand::Register(RAX),
         Spot::Offset => Operand::Memory(in_segment(fields, bases, fields.imm)),
         Spot::Immediate => Operand::Number(immediate(fields)),
         Spot::One => Operand::Number(1),
-        Spot::Cl => Operand::Register(1),
+        Spot::Cl => Operand::Register(RCX),
         Spot::Relative => Operand::Number(bases.next.wrapping_add(immediate(fields))),
     }
 }
@@ -322,8 +322,8 @@ pub(crate) fn upper_half(size: Size) -> Operand
     ensures fits { OperandFits result }
 {
     match size {
-        Size::Byte => Operand::HighByte(0),
-        Size::Word | Size::Double | Size::Quad => Operand::Register(2),
+        Size::Byte => Operand::HighByte(RAX),
+        Size::Word | Size::Double | Size::Quad => Operand::Register(RDX),
     }
 }
 
@@ -400,10 +400,10 @@ pub(crate) fn stack_place(op: Op, size: Size, gprs: &Gprs) -> u64
 {
     match op {
         Op::Core(CoreOp::Push | CoreOp::Pushf | CoreOp::Call) => {
-            gprs.get(4).wrapping_sub(size.bytes() as u64)
+            gprs.get(RSP).wrapping_sub(size.bytes() as u64)
         }
-        Op::Core(CoreOp::Leave) => gprs.get(5),
-        _ => gprs.get(4),
+        Op::Core(CoreOp::Leave) => gprs.get(RBP),
+        _ => gprs.get(RSP),
     }
 }
 
@@ -412,8 +412,8 @@ pub(crate) fn rsp_in_addresses(op: Op, size: Size, gprs: &Gprs) -> u64
     ensures { result ≡ rsp_for op size gprs.now }
 {
     match op {
-        Op::Core(CoreOp::Pop) => gprs.get(4).wrapping_add(size.bytes() as u64),
-        _ => gprs.get(4),
+        Op::Core(CoreOp::Pop) => gprs.get(RSP).wrapping_add(size.bytes() as u64),
+        _ => gprs.get(RSP),
     }
 }
 

@@ -10,7 +10,7 @@ ghost use Rattle.core_step.specs.Pair.{half_in, pair_bytes, is_misaligned as is_
 use crate::kinds::{Operand, PairPlan, Size};
 use crate::values::set_register;
 use byteorder::{ByteOrder, LittleEndian};
-use gpr_flags::Gprs;
+use gpr_flags::{Gprs, RAX, RBX, RCX, RDX, low, power};
 use guest_pages::Pages;
 use machine_state::Kind;
 use row_table::Row;
@@ -46,38 +46,21 @@ fn joined(half: Size, high: u64, low: u64) -> u128
     ensures value { result ≡ joined_of half high low }
     ensures fits { result < 256 ^ (2 * bytes_in half) }
 {
-    let high = half.cut(high) as u128;
-    let low = half.cut(low) as u128;
-    match half {
-        Size::Byte => high * 0x100 + low,
-        Size::Word => high * 0x1_0000 + low,
-        Size::Double => high * 0x1_0000_0000 + low,
-        Size::Quad => high * 0x1_0000_0000_0000_0000 + low,
-    }
+    u128::from(half.cut(high)) * power(half.bits()) + u128::from(half.cut(low))
 }
 
 /// The low half of a number.
 fn low_half(half: Size, number: u128) -> u64
     ensures { result ≡ cut half number }
 {
-    match half {
-        Size::Byte => (number % 0x100) as u64,
-        Size::Word => (number % 0x1_0000) as u64,
-        Size::Double => (number % 0x1_0000_0000) as u64,
-        Size::Quad => (number % 0x1_0000_0000_0000_0000) as u64,
-    }
+    low(half.bits(), number)
 }
 
 /// The half above it.
 fn high_half(half: Size, number: u128) -> u64
     ensures { result ≡ cut half (number / 2 ^ bits_in half) }
 {
-    match half {
-        Size::Byte => low_half(half, number / 0x100),
-        Size::Word => low_half(half, number / 0x1_0000),
-        Size::Double => low_half(half, number / 0x1_0000_0000),
-        Size::Quad => low_half(half, number / 0x1_0000_0000_0000_0000),
-    }
+    low(half.bits(), number >> half.bits())
 }
 
 /// What stands in memory, which can be written.
@@ -98,7 +81,7 @@ pub(crate) fn load(i: &PairPlan, pages: &Pages) -> u128
 pub(crate) fn is_equal(half: Size, found: u128, gprs: &Gprs) -> bool
     ensures { result ≡ is_equal_by half found gprs.now }
 {
-    found == joined(half, gprs.get(2), gprs.get(0))
+    found == joined(half, gprs.get(RDX), gprs.get(RAX))
 }
 
 /// Puts rcx and rbx into memory, which can be written.
@@ -109,7 +92,7 @@ fn store(i: &PairPlan, gprs: &Gprs, pages: &mut Pages)
 {
     let mut bytes = [0; 16];
     let len = pair_len(i);
-    let number = joined(i.half, gprs.get(1), gprs.get(3));
+    let number = joined(i.half, gprs.get(RCX), gprs.get(RBX));
     LittleEndian::write_uint128(&mut bytes, number, len);
     match pages.write(i.addr, &bytes[..len]) {
         Ok(()) => {}
@@ -133,8 +116,8 @@ pub(crate) fn exchange_memory(i: &PairPlan, found: u128, gprs: &Gprs, pages: &mu
 fn load_registers(half: Size, found: u128, gprs: &mut Gprs)
     ensures { gprs.new ≡ pair_loaded half found gprs.old }
 {
-    set_register(gprs, Operand::Register(0), half, low_half(half, found));
-    set_register(gprs, Operand::Register(2), half, high_half(half, found));
+    set_register(gprs, Operand::Register(RAX), half, low_half(half, found));
+    set_register(gprs, Operand::Register(RDX), half, high_half(half, found));
 }
 
 /// Puts what stood in memory into rdx and rax where it isn't what stands there.

@@ -9,7 +9,7 @@ ghost use Rattle.core_step.specs.Plan.{plan_of as plan_of_row};
 ghost use Rattle.core_step.specs.Machine.{state_of};
 
 use crate::addressing::{address, segment_base};
-use crate::kinds::{Bases, Instruction, PairPlan, Plan, Size, StringPlan};
+use crate::kinds::{Bases, Instruction, PairPlan, Plan, Repeat, Size, StringPlan};
 use crate::machine::Machine;
 use crate::operands::{
     destination_size, is_wide, operand, operation, row_size, rsp_in_addresses, source_size,
@@ -103,7 +103,7 @@ impl Machine {
             size,
             wrap32: d.fields.p67,
             base: segment_base(&d.fields, bases),
-            rep: d.fields.rep,
+            repeat: Repeat::by_prefix(&d.fields),
             next,
         }
     }

@@ -9,7 +9,7 @@ use crate::kinds::{Bases, Operand, Size};
 use crate::operands::{
     bit_operand, destination_spot, is_far, is_wide, operand, sole_spot, source_spot, upper_half,
 };
-use gpr_flags::Gprs;
+use gpr_flags::{Gprs, R11, RAX, RBP, RCX, RDX};
 use row_table::{CoreOp, Decoded, GprOp, Op, Operands};
 
 /// The destination of an operation: that of its row, but for those that have one of their own.
@@ -33,14 +33,14 @@ pub(crate) fn destination(
 {
     match op {
         Op::Core(CoreOp::Push | CoreOp::Pushf | CoreOp::Call) => Operand::Memory(stack),
-        Op::Core(CoreOp::Leave) => Operand::Register(5),
+        Op::Core(CoreOp::Leave) => Operand::Register(RBP),
         Op::Core(CoreOp::Loopne | CoreOp::Loope | CoreOp::Loop | CoreOp::Jrcxz | CoreOp::Syscall) =>
-            Operand::Register(1),
-        Op::Core(CoreOp::Cbw | CoreOp::Rdtsc) => Operand::Register(0),
-        Op::Core(CoreOp::Cwd) => Operand::Register(2),
-        Op::Core(CoreOp::Lahf) => Operand::HighByte(0),
+            Operand::Register(RCX),
+        Op::Core(CoreOp::Cbw | CoreOp::Rdtsc) => Operand::Register(RAX),
+        Op::Core(CoreOp::Cwd) => Operand::Register(RDX),
+        Op::Core(CoreOp::Lahf) => Operand::HighByte(RAX),
         Op::Core(CoreOp::Jmp | CoreOp::Nop) => Operand::Absent,
-        Op::Gpr(_) if is_wide(op, operands) => Operand::Register(0),
+        Op::Gpr(_) if is_wide(op, operands) => Operand::Register(RAX),
         Op::Bit(_) if is_far(op, operands) => { bit_operand(size, &d.fields, d.disp, gprs, bases) }
         _ => operand(
             destination_spot(operands),
@@ -81,8 +81,8 @@ pub(crate) fn source(
             operand(sole_spot(operands), size, &d.fields, d.disp, gprs, bases)
         }
         Op::Core(CoreOp::Lea) => Operand::Number(offset(&d.fields, d.disp, gprs, bases)),
-        Op::Core(CoreOp::Cbw | CoreOp::Cwd) => Operand::Register(0),
-        Op::Core(CoreOp::Sahf) => Operand::HighByte(0),
+        Op::Core(CoreOp::Cbw | CoreOp::Cwd) => Operand::Register(RAX),
+        Op::Core(CoreOp::Sahf) => Operand::HighByte(RAX),
         Op::Core(CoreOp::Syscall | CoreOp::Rdtsc | CoreOp::Nop | CoreOp::Cmpxchg8b) => {
             Operand::Absent
         }
@@ -131,9 +131,9 @@ pub(crate) fn third(
 {
     match op {
         Op::Core(CoreOp::Xchg | CoreOp::Xadd) => source,
-        Op::Core(CoreOp::Cmpxchg) => Operand::Register(0),
-        Op::Core(CoreOp::Rdtsc) => Operand::Register(2),
-        Op::Core(CoreOp::Syscall) => Operand::Register(11),
+        Op::Core(CoreOp::Cmpxchg) => Operand::Register(RAX),
+        Op::Core(CoreOp::Rdtsc) => Operand::Register(RDX),
+        Op::Core(CoreOp::Syscall) => Operand::Register(R11),
         Op::Core(_) => Operand::Absent,
         Op::Gpr(op) => gpr_third(op, wide, size, spelled, destination),
         _ => spelled,

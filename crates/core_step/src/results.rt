@@ -17,15 +17,15 @@ use row_table::{BitOp, CoreOp, GprOp, Op};
 
 /// The bytes in the other order.
 fn reversed(size: Size, number: u64) -> u64
-    requires { number < 2 ^ bits_in size }
     ensures { result ≡ reversed_to size number }
 {
-    match size {
-        Size::Byte => number,
-        Size::Word => (number as u16).swap_bytes() as u64,
-        Size::Double => (number as u32).swap_bytes() as u64,
-        Size::Quad => number.swap_bytes(),
-    }
+    bits(
+        Op::Core(CoreOp::Bswap),
+        size.bytes(),
+        number,
+        0,
+        &mut Flags::none(),
+    )
 }
 
 fn sign_bits(size: Size, number: u64) -> u64
@@ -298,8 +298,8 @@ fn divides(signed: bool, i: &Instruction, high: u64, low: u64, by: u64, f: Flags
 /// The value and the flags of one operation go to the destination.
 fn computes(op: GprOp, i: &Instruction, a: u64, b: u64, f: Flags) -> Outcome
     requires { IsTrue (is_alu (Op.Gpr op)) }
-    ensures { result ≡ gives_of (alu_value (Op.Gpr op) (8 * bytes_in i.now.size) a b f) i.now
-        (alu_flags (Op.Gpr op) (8 * bytes_in i.now.size) a b f) }
+    ensures { result ≡ gives_of (alu_value (Op.Gpr op) (bits_in i.now.size) a b f) i.now
+        (alu_flags (Op.Gpr op) (bits_in i.now.size) a b f) }
 {
     let mut flags = f;
     let value = alu(Op::Gpr(op), i.size.bytes(), a, b, &mut flags);
@@ -346,8 +346,8 @@ fn shifts(op: BitOp, i: &Instruction, a: u64, b: u64, count: u64, f: Flags) -> O
 
 /// The value and the flags of one operation on bits.
 fn picks(op: BitOp, i: &Instruction, a: u64, b: u64, f: Flags) -> Outcome
-    ensures { result ≡ gives_of (bits_value (Op.Bit op) (8 * bytes_in i.now.size) a b) i.now
-        (bits_flags (Op.Bit op) (8 * bytes_in i.now.size) a b f) }
+    ensures { result ≡ gives_of (bits_value (Op.Bit op) (bits_in i.now.size) a b) i.now
+        (bits_flags (Op.Bit op) (bits_in i.now.size) a b f) }
 {
     let mut flags = f;
     let value = bits(Op::Bit(op), i.size.bytes(), a, b, &mut flags);

@@ -1,8 +1,9 @@
 //! Numbers of an operand's size, and the parts of general registers.
 ghost use Rattle.std.specs.Prelude.{◌≡◌, ◌≤◌, ◌<◌, ◌^◌};
-ghost use Rattle.core_step.specs.Size.{bytes_in, bits_in, cut as cut_to, is_negative as is_negative_at, sign_extended, half_of, register_with, with_high_byte as with_high};
+ghost use Rattle.core_step.specs.Size.{bytes_in, bits_in, cut as cut_to, is_negative as is_negative_at, sign_extended, half_of, with_high_byte as with_high};
 
 use crate::kinds::Size;
+use gpr_flags::low;
 
 impl Size {
     /// How many bytes it has.
@@ -19,28 +20,27 @@ impl Size {
         }
     }
 
+    /// How many bits it has.
+    pub(crate) fn bits(self) -> u32
+        ensures value { result ≡ bits_in self }
+        ensures some { 8 ≤ result }
+        ensures most { result ≤ 64 }
+    {
+        8 * u32::from(self.bytes())
+    }
+
     /// The low bits of a number, as many as the size has.
     pub(crate) fn cut(self, number: u64) -> u64
         ensures { result ≡ cut_to self number }
     {
-        match self {
-            Size::Byte => number % 0x100,
-            Size::Word => number % 0x1_0000,
-            Size::Double => number % 0x1_0000_0000,
-            Size::Quad => number,
-        }
+        low(self.bits(), u128::from(number))
     }
 
     /// Whether the highest bit of a number of this size is 1.
     pub(crate) fn is_negative(self, number: u64) -> bool
         ensures { result ≡ is_negative_at self number }
     {
-        match self {
-            Size::Byte => number >= 0x80,
-            Size::Word => number >= 0x8000,
-            Size::Double => number >= 0x8000_0000,
-            Size::Quad => number >= 0x8000_0000_0000_0000,
-        }
+        number >= 1 << (self.bits() - 1)
     }
 
     /// A number of this size at 64 bits, with its sign.
@@ -69,18 +69,6 @@ impl Size {
             Size::Byte | Size::Word => Size::Byte,
             Size::Double => Size::Word,
             Size::Quad => Size::Double,
-        }
-    }
-
-    /// A register where a number of this size was written to it.
-    pub(crate) fn put(self, old: u64, number: u64) -> u64
-        ensures { result ≡ register_with self old number }
-    {
-        match self {
-            Size::Byte => old / 0x100 * 0x100 + number % 0x100,
-            Size::Word => old / 0x1_0000 * 0x1_0000 + number % 0x1_0000,
-            Size::Double => number % 0x1_0000_0000,
-            Size::Quad => number,
         }
     }
 }

@@ -3,56 +3,62 @@ ghost use Rattle.std.specs.Prelude.{◌≡◌, ◌%◌, ◌^◌, None, if◌then
 ghost use Rattle.machine_state.specs.Memory.{Swap};
 ghost use Rattle.guest_pages.specs.Pages.{table_of, byte_of};
 ghost use Rattle.guest_pages.specs.Changes.{KeepsTable};
-ghost use Rattle.string_unit.specs.Strings.{place_bits, string_accesses, string_gprs, string_flags, string_byte};
+ghost use Rattle.string_unit.specs.Strings.{string_accesses, string_gprs, string_flags, string_byte};
 ghost use Rattle.core_step.specs.Size.{bytes_in};
 ghost use Rattle.core_step.specs.Access.{walk};
-ghost use Rattle.core_step.specs.Strings.{count_in, is_over as is_over_by, source_of, destination_of, with_count, goes_on as goes_on_by, is_continued as is_continued_by};
+ghost use Rattle.core_step.specs.Strings.{repeat_of, is_repeated as is_repeated_by, is_met as is_met_by, count_in, is_over as is_over_by, source_of, destination_of, with_count, goes_on as goes_on_by, is_continued as is_continued_by};
 
-use crate::kinds::StringPlan;
-use gpr_flags::{Flags, Gprs};
+use crate::kinds::{Repeat, StringPlan};
+use gpr_flags::{Flags, Gprs, RCX};
 use guest_pages::Pages;
-use row_table::{Op, StringOp};
-use string_unit::iterate;
+use row_table::{Fields, Op, StringOp};
+use string_unit::{index, iterate};
 
-/// The bits of a register that count.
-fn index(i: &StringPlan, value: u64) -> u64
-    ensures { result ≡ value % 2 ^ place_bits i.now.wrap32 }
-{
-    if i.wrap32 {
-        value % 0x1_0000_0000
-    } else {
-        value
+impl Repeat {
+    /// What the last of the prefixes F2 and F3 says.
+    pub(crate) fn by_prefix(fields: &Fields) -> Repeat
+        ensures { result ≡ repeat_of fields.now }
+    {
+        match fields.rep {
+            0xF3 => Repeat::WhileEqual,
+            0xF2 => Repeat::WhileUnequal,
+            _ => Repeat::Once,
+        }
     }
-}
 
-/// Where the operand at rsi is.
-#[tactic(auto, unfolding(string_unit::specs::Strings::source_place))]
-pub(crate) fn source_place(i: &StringPlan, gprs: &Gprs) -> u64
-    ensures { result ≡ source_of i.now gprs.now }
-{
-    index(i, gprs.get(6)).wrapping_add(i.base)
-}
+    fn is_repeated(self) -> bool
+        ensures { result ≡ is_repeated_by self }
+    {
+        match self {
+            Repeat::Once => false,
+            Repeat::WhileEqual | Repeat::WhileUnequal => true,
+        }
+    }
 
-/// Where the operand at rdi is.
-#[tactic(auto, unfolding(string_unit::specs::Strings::destination_place))]
-pub(crate) fn destination_place(i: &StringPlan, gprs: &Gprs) -> u64
-    ensures { result ≡ destination_of i.now gprs.now }
-{
-    index(i, gprs.get(7))
+    /// Whether the flags of a comparison let it be repeated.
+    fn is_met(self, flags: Flags) -> bool
+        ensures { result ≡ is_met_by self flags }
+    {
+        match self {
+            Repeat::Once => false,
+            Repeat::WhileEqual => flags.zf,
+            Repeat::WhileUnequal => !flags.zf,
+        }
+    }
 }
 
 /// The count.
 pub(crate) fn count(i: &StringPlan, gprs: &Gprs) -> u64
     ensures { result ≡ count_in i.now gprs.now }
 {
-    index(i, gprs.get(1))
+    index(i.wrap32, gprs.get(RCX))
 }
 
 /// Whether the count, which is 0, keeps an iteration from being made.
 pub(crate) fn is_over(i: &StringPlan, gprs: &Gprs) -> bool
     ensures { result ≡ is_over_by i.now gprs.now }
 {
-    i.rep != 0 && count(i, gprs) == 0
+    i.repeat.is_repeated() && count(i, gprs) == 0
 }
 
 /// One iteration, whose accesses can be made.
@@ -85,18 +91,18 @@ pub(crate) fn iterate_once(i: &StringPlan, gprs: &mut Gprs, flags: &mut Flags, p
 pub(crate) fn lower_count(i: &StringPlan, count: u64, gprs: &mut Gprs)
     ensures { gprs.new ≡ with_count i.now count gprs.old }
 {
-    if i.rep != 0 {
-        gprs.set(1, count.saturating_sub(1));
+    if i.repeat.is_repeated() {
+        gprs.set(RCX, count.saturating_sub(1));
     }
 }
 
-/// Whether the flags let a repeated instruction go on.
+/// Whether the flags let an instruction go on, which counts for comparisons alone.
 #[tactic(auto, unfolding(crate::specs::Strings::goes_on))]
-fn goes_on(op: StringOp, rep: u8, flags: Flags) -> bool
-    ensures { result ≡ goes_on_by op rep flags }
+fn goes_on(op: StringOp, repeat: Repeat, flags: Flags) -> bool
+    ensures { result ≡ goes_on_by op repeat flags }
 {
     match op {
-        StringOp::Cmps | StringOp::Scas => { if rep == 0xF3 { flags.zf } else { !flags.zf } }
+        StringOp::Cmps | StringOp::Scas => repeat.is_met(flags),
         StringOp::Movs | StringOp::Stos | StringOp::Lods => true,
     }
 }
@@ -105,7 +111,7 @@ fn goes_on(op: StringOp, rep: u8, flags: Flags) -> bool
 fn is_continued(i: &StringPlan, count: u64, flags: Flags) -> bool
     ensures { result ≡ is_continued_by i.now count flags }
 {
-    i.rep != 0 && count.saturating_sub(1) != 0 && goes_on(i.op, i.rep, flags)
+    i.repeat.is_repeated() && count.saturating_sub(1) != 0 && goes_on(i.op, i.repeat, flags)
 }
 
 /// Where the instruction pointer is after an iteration.

@@ -1,50 +1,19 @@
 //! The numbers of operands, and where they go.
 ghost use Rattle.std.specs.Prelude.{◌≡◌, ◌≢◌, ◌<◌, ◌≤◌, ◌^◌, None, length};
-ghost use Rattle.byteorder.specs.Endian.{little_number};
 ghost use Rattle.machine_state.specs.Memory.{Swap};
 ghost use Rattle.guest_pages.specs.Table.{blocked};
 ghost use Rattle.guest_pages.specs.Pages.{table_of, byte_of};
 ghost use Rattle.guest_pages.specs.Changes.{KeepsTable, IsWritten};
-ghost use Rattle.string_unit.specs.Strings.{number_at};
 ghost use Rattle.core_step.specs.Size.{bytes_in, bits_in};
 ghost use Rattle.core_step.specs.Fits.{OperandFits};
 ghost use Rattle.core_step.specs.Access.{operand_access, kind_of, walk};
-ghost use Rattle.core_step.specs.Act.{register_value as register_value_of, value_of, old_value as old_value_of, number_for as number_for_use, gprs_with, gprs_after, gprs_stacked, byte_after, bytes_of};
+ghost use Rattle.core_step.specs.Act.{register_value as register_value_of, value_of, old_value as old_value_of, number_for as number_for_use, gprs_with, gprs_after, gprs_stacked, byte_after};
 
 use crate::kinds::{Operand, Size, Use};
 use crate::sizes::with_high_byte;
-use byteorder::{ByteOrder, LittleEndian};
-use gpr_flags::Gprs;
+use gpr_flags::{Gprs, RSP};
 use guest_pages::Pages;
 use machine_state::Kind;
-
-/// The number in the first bytes, the lowest first.
-fn number(bytes: &[u8], size: Size) -> u64
-    requires { bytes_in size ≤ length bytes.now }
-    ensures value { result ≡ little_number (bytes_in size) bytes.now }
-    ensures fits { result < 2 ^ bits_in size }
-{
-    match size {
-        Size::Byte => bytes[0] as u64,
-        Size::Word => LittleEndian::read_u16(bytes) as u64,
-        Size::Double => LittleEndian::read_u32(bytes) as u64,
-        Size::Quad => LittleEndian::read_u64(bytes),
-    }
-}
-
-/// The number at an address that can be read.
-fn load(pages: &Pages, kind: Kind, addr: u64, size: Size) -> u64
-    requires { blocked (table_of pages.now) kind addr (bytes_in size) ≡ None }
-    ensures value { (w : Swap) → result ≡ number_at (byte_of pages.now w) addr (bytes_in size) }
-    ensures fits { result < 2 ^ bits_in size }
-{
-    let mut bytes = [0; 8];
-    let len = size.bytes() as usize;
-    match pages.read(addr, &mut bytes[..len], kind) {
-        Ok(()) => number(&bytes, size),
-        Err(_) => unreachable!(),
-    }
-}
 
 /// The number of an operand that isn't in memory.
 pub(crate) fn register_value(operand: Operand, size: Size, gprs: &Gprs) -> u64
@@ -69,26 +38,20 @@ pub(crate) fn value(operand: Operand, size: Size, kind: Kind, gprs: &Gprs, pages
     ensures fits { result < 2 ^ bits_in size }
 {
     match operand {
-        Operand::Memory(addr) => load(pages, kind, addr, size),
+        Operand::Memory(addr) => pages.load(addr, size.bytes(), kind),
         Operand::Absent | Operand::Register(_) | Operand::HighByte(_) | Operand::Number(_) =>
             register_value(operand, size, gprs),
     }
 }
 
 /// The number that stands in a destination; where it is only written, that is not looked at.
-pub(crate) fn old_value(
-    use_of_it: Use,
-    operand: Operand,
-    size: Size,
-    gprs: &Gprs,
-    pages: &Pages,
-) -> u64
+pub(crate) fn old_value(usage: Use, operand: Operand, size: Size, gprs: &Gprs, pages: &Pages) -> u64
     requires operand { OperandFits operand }
-    requires ready { walk (table_of pages.now) (operand_access (kind_of use_of_it) operand size) ≡ None }
-    ensures value { (w : Swap) → result ≡ old_value_of use_of_it operand size gprs.now (byte_of pages.now w) }
+    requires ready { walk (table_of pages.now) (operand_access (kind_of usage) operand size) ≡ None }
+    ensures value { (w : Swap) → result ≡ old_value_of usage operand size gprs.now (byte_of pages.now w) }
     ensures fits { result < 2 ^ bits_in size }
 {
-    match use_of_it {
+    match usage {
         Use::Read => value(operand, size, Kind::Read, gprs, pages),
         Use::Update => value(operand, size, Kind::Write, gprs, pages),
         Use::Write => 0,
@@ -96,10 +59,10 @@ pub(crate) fn old_value(
 }
 
 /// What goes to a destination.
-pub(crate) fn number_for(use_of_it: Use, number: Option<u64>) -> Option<u64>
-    ensures { result ≡ number_for_use use_of_it number }
+pub(crate) fn number_for(usage: Use, number: Option<u64>) -> Option<u64>
+    ensures { result ≡ number_for_use usage number }
 {
-    match use_of_it {
+    match usage {
         Use::Read => None,
         Use::Write | Use::Update => number,
     }
@@ -111,10 +74,7 @@ pub(crate) fn set_register(gprs: &mut Gprs, operand: Operand, size: Size, number
     ensures { gprs.new ≡ gprs_with operand size number gprs.old }
 {
     match operand {
-        Operand::Register(to) => {
-            let old = gprs.get(to);
-            gprs.set(to, size.put(old, number));
-        }
+        Operand::Register(to) => gprs.write(to, size.bytes(), number),
         Operand::HighByte(to) => {
             let old = gprs.get(to);
             gprs.set(to, with_high_byte(old, number));
@@ -128,23 +88,8 @@ pub(crate) fn put_register(gprs: &mut Gprs, operand: Operand, size: Size, number
     requires { OperandFits operand }
     ensures { gprs.new ≡ gprs_after operand size number gprs.old }
 {
-    match number {
-        Some(number) => set_register(gprs, operand, size, number),
-        None => {}
-    }
-}
-
-/// Puts a number into memory that can be written.
-fn store(pages: &mut Pages, addr: u64, size: Size, number: u64)
-    requires { blocked (table_of pages.old) Kind.Write addr (bytes_in size) ≡ None }
-    ensures { IsWritten pages.old pages.new addr (bytes_of size number) }
-{
-    let mut bytes = [0; 8];
-    let len = size.bytes() as usize;
-    LittleEndian::write_uint(&mut bytes, size.cut(number), len);
-    match pages.write(addr, &bytes[..len]) {
-        Ok(()) => {}
-        Err(_) => unreachable!(),
+    if let Some(number) = number {
+        set_register(gprs, operand, size, number);
     }
 }
 
@@ -155,9 +100,8 @@ fn put_memory(pages: &mut Pages, operand: Operand, size: Size, number: Option<u6
     ensures table { KeepsTable pages.old pages.new }
     ensures unwritten { number ≡ None → pages.new ≡ pages.old }
 {
-    match (operand, number) {
-        (Operand::Memory(addr), Some(number)) => store(pages, addr, size, number),
-        _ => {}
+    if let (Operand::Memory(addr), Some(number)) = (operand, number) {
+        pages.store(addr, size.bytes(), number);
     }
 }
 
@@ -184,8 +128,7 @@ pub(crate) fn put(
 pub(crate) fn move_stack(gprs: &mut Gprs, rsp: Option<u64>)
     ensures { gprs.new ≡ gprs_stacked rsp gprs.old }
 {
-    match rsp {
-        Some(rsp) => gprs.set(4, rsp),
-        None => {}
+    if let Some(rsp) = rsp {
+        gprs.set(RSP, rsp);
     }
 }

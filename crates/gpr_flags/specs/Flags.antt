@@ -1,6 +1,7 @@
 -- The flags, the conditions on them, and RFLAGS as a number.
-use Rattle.std.specs.Prelude.{ℕ, ◌+◌, ◌/◌, ◌%◌, ◌==◌, Bool, false, not, ◌||◌, if◌then◌else◌}
+use Rattle.std.specs.Prelude.{ℕ, ◌+◌, ◌-◌, ◌/◌, ◌%◌, ◌==◌, Bool, false, not, ◌||◌, if◌then◌else◌, count_ones}
 use Rattle.std.specs.Bool.{beq}
+use Rattle.std.specs.Int.{bit_at}
 use Rattle.gpr_flags.specs.declared.kinds.Flags.{Flags}
 
 abbrev pub no_flags : Flags
@@ -30,6 +31,14 @@ flags_of word = record {
   df = has_bit word 1024;
   ovf = has_bit word 2048;
 }
+
+-- SF is the highest bit of a value of n bits, and ZF says that it is 0 (SDM volume 1, 3.4.3.1)
+abbrev pub sign_and_zero : (n value : ℕ) → Flags → Flags
+sign_and_zero n value f = record f { zf = value == 0; sf = bit_at value (n - 1) == 1 }
+
+-- and PF says that the number of 1 bits in the lowest byte is even (SDM volume 1, 3.4.3.1)
+abbrev pub value_flags : (n value : ℕ) → Flags → Flags
+value_flags n value f = record (sign_and_zero n value f) { pf = count_ones (value % 256) % 2 == 0 }
 
 -- the conditions in the order of their numbers: O, B, Z, BE, S, P, L, LE, where an odd number negates the one before it (SDM
 -- volume 1, appendix B)

@@ -1,6 +1,6 @@
 //! The flags as conditions and as a number.
 ghost use Rattle.std.specs.Prelude.{◌≡◌, ◌<◌, ◌≤◌};
-ghost use Rattle.gpr_flags.specs.Flags.{no_flags, flag_bit as flag_bit_of, flags_word, has_bit as has_bit_of, flags_of, even_condition, holds as condition_holds};
+ghost use Rattle.gpr_flags.specs.Flags.{no_flags, flag_bit as flag_bit_of, flags_word, has_bit as has_bit_of, flags_of, sign_and_zero, value_flags, even_condition, holds as condition_holds};
 
 use crate::kinds::Flags;
 
@@ -85,6 +85,31 @@ impl Flags {
             sf: has_bit(word, 128),
             df: has_bit(word, 1024),
             ovf: has_bit(word, 2048),
+        }
+    }
+
+    /// The same flags with SF and ZF of a value of `bits` bits.
+    pub fn with_sign_and_zero(self, bits: u32, value: u64) -> Flags
+        requires some { 0 < bits }
+        requires most { bits ≤ 64 }
+        ensures { result ≡ sign_and_zero bits value self }
+    {
+        Flags {
+            zf: value == 0,
+            sf: (value >> (bits - 1)) % 2 == 1,
+            ..self
+        }
+    }
+
+    /// The same flags with SF, ZF and PF of a value of `bits` bits.
+    pub fn with_value(self, bits: u32, value: u64) -> Flags
+        requires some { 0 < bits }
+        requires most { bits ≤ 64 }
+        ensures { result ≡ value_flags bits value self }
+    {
+        Flags {
+            pf: (value % 256).count_ones() % 2 == 0,
+            ..self.with_sign_and_zero(bits, value)
         }
     }
 }

@@ -45,3 +45,34 @@ fn registers_keep_their_values(rt: HostRuntime) {
     assert_eq!(rt; gprs.get(4), 7);
     assert_eq!(rt; gprs.get(15), u64::MAX);
 }
+
+/// A size in bytes, and what FFFFFFFF00112233H is once A1B2C3D4E5F60718H is written to it at that size (SDM volume 1, 3.4.1.1).
+const WRITTEN: [(u8, u64); 4] = [
+    (1, 0xFFFF_FFFF_0011_2218),
+    (2, 0xFFFF_FFFF_0011_0718),
+    (4, 0xE5F6_0718),
+    (8, 0xA1B2_C3D4_E5F6_0718),
+];
+
+#[test]
+fn short_numbers_leave_the_rest_of_a_register_and_four_bytes_clear_it(rt: HostRuntime) {
+    for (size, expected) in WRITTEN {
+        let mut gprs = Gprs::new();
+        gprs.set(3, 0xFFFF_FFFF_0011_2233);
+        gprs.write(3, size, 0xA1B2_C3D4_E5F6_0718);
+        assert_eq!(rt; gprs.get(3), expected, "size {size}");
+    }
+}
+
+#[test]
+fn flags_of_a_value_are_of_its_bits(rt: HostRuntime) {
+    assert_eq!(rt; Flags::none().with_value(8, 0x80).word(), 0x282);
+    assert_eq!(rt; Flags::none().with_value(16, 0x80).word(), 0x202);
+    assert_eq!(rt; Flags::none().with_value(32, 0).word(), 0x246);
+    assert_eq!(rt;
+        Flags::none().with_value(64, 0x8000_0000_0000_0103).word(),
+        0x286
+    );
+    assert_eq!(rt; Flags::none().with_sign_and_zero(8, 0).word(), 0x242);
+    assert_eq!(rt; low(5, 0xFF), 0x1F);
+}

@@ -1,6 +1,7 @@
 -- Sums, differences and logic of n bits: a value, and the seven flags.
-use Rattle.std.specs.Prelude.{ℕ, ◌+◌, ◌-◌, ◌%◌, ◌^◌, ◌==◌, pos, ◌+ℤ◌, ◌-ℤ◌, Bool, true, false, nat_le, nat_lt, if◌then◌else◌, bit_and, bit_or, bit_xor, count_ones}
+use Rattle.std.specs.Prelude.{ℕ, ◌+◌, ◌-◌, ◌%◌, ◌^◌, pos, ◌+ℤ◌, ◌-ℤ◌, Bool, true, false, nat_le, nat_lt, if◌then◌else◌, bit_and, bit_or, bit_xor}
 use Rattle.gpr_flags.specs.declared.kinds.Flags.{Flags}
+use Rattle.gpr_flags.specs.Flags.{value_flags}
 use Rattle.row_table.specs.declared.operations.Op.{Op}
 use Rattle.row_table.specs.declared.operations.Op.TheVariants.{Gpr}
 use Rattle.row_table.specs.declared.operations.GprOp.{GprOp}
@@ -11,11 +12,6 @@ use Rattle.gpr_units.specs.Numbers.{signed_of, is_outside}
 pub record Scalar : Type 0 where
   pub value : ℕ
   pub flags : Flags
-
--- PF says that the number of 1 bits in the lowest byte is even, ZF that the value is 0, and SF is its highest bit (SDM volume
--- 1, 3.4.3.1)
-abbrev pub with_value : (n value : ℕ) → Flags → Flags
-with_value n value f = record f { pf = count_ones (value % 256) % 2 == 0; zf = value == 0; sf = nat_le (2 ^ (n - 1)) value }
 
 -- a flag as the carry of a sum
 abbrev pub carry_of : Bool → ℕ
@@ -30,7 +26,7 @@ abbrev pub sum_carry : (n a b carry : ℕ) → Bool
 sum_carry n a b carry = nat_le (2 ^ n) (a + b + carry)
 
 abbrev pub sum_flags : (n a b carry : ℕ) → Flags → Flags
-sum_flags n a b carry f = with_value n (sum_value n a b carry) (record f {
+sum_flags n a b carry f = value_flags n (sum_value n a b carry) (record f {
   cf = sum_carry n a b carry;
   af = nat_le 16 (a % 16 + b % 16 + carry);
   ovf = is_outside true n (signed_of n a +ℤ signed_of n b +ℤ pos carry);
@@ -44,7 +40,7 @@ abbrev pub difference_value : (n a b borrow : ℕ) → ℕ
 difference_value n a b borrow = (a + 2 ^ n - (b + borrow)) % 2 ^ n
 
 abbrev pub difference_flags : (n a b borrow : ℕ) → Flags → Flags
-difference_flags n a b borrow f = with_value n (difference_value n a b borrow) (record f {
+difference_flags n a b borrow f = value_flags n (difference_value n a b borrow) (record f {
   cf = nat_lt a (b + borrow);
   af = nat_lt (a % 16) (b % 16 + borrow);
   ovf = is_outside true n (signed_of n a -ℤ signed_of n b -ℤ pos borrow);
@@ -55,7 +51,7 @@ difference n a b borrow f = record { value = difference_value n a b borrow; flag
 
 -- a logical value clears CF and OF; AF, which the SDM leaves open, stays (this program's own)
 abbrev pub logic_flags : (n value : ℕ) → Flags → Flags
-logic_flags n value f = with_value n value (record f { cf = false; ovf = false })
+logic_flags n value f = value_flags n value (record f { cf = false; ovf = false })
 
 abbrev pub logic : (n value : ℕ) → Flags → Scalar
 logic n value f = record { value = value; flags = logic_flags n value f }

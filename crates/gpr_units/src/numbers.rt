@@ -2,6 +2,8 @@
 ghost use Rattle.std.specs.Prelude.{◌≡◌, ◌*◌, ◌<◌, ◌≤◌, ◌^◌, ◌%◌, true};
 ghost use Rattle.gpr_units.specs.Numbers.{signed_of, low_of, is_outside};
 
+use gpr_flags::{low, power};
+
 /// How many bits a size in bytes has.
 pub(crate) fn bits_in(size: u8) -> u32
     requires some { 0 < size }
@@ -19,17 +21,7 @@ pub(crate) fn full(bits: u32) -> u128
     ensures value { result ≡ 2 ^ bits }
     ensures most { result ≤ 2 ^ 64 }
 {
-    1 << bits
-}
-
-/// The low bits of a number.
-#[tactic(auto, using(std::proofs::lemmas::Nat::and_mask))]
-pub(crate) fn low(bits: u32, number: u128) -> u64
-    requires { bits ≤ 64 }
-    ensures value { result ≡ number % 2 ^ bits }
-    ensures small { result < 2 ^ bits }
-{
-    (number & (full(bits) - 1)) as u64
+    power(bits)
 }
 
 /// The low bits of an operand.

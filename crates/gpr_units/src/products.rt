@@ -3,8 +3,8 @@ ghost use Rattle.std.specs.Prelude.{◌≡◌, pos, ◌*◌, ◌<◌, ◌≤◌,
 ghost use Rattle.gpr_units.specs.Numbers.{signed_of};
 ghost use Rattle.gpr_units.specs.Multiply.{product_of, low_half, high_half, product_flags};
 
-use crate::numbers::{bits_in, cut, full, is_outside_signed, low, signed as signed_number};
-use gpr_flags::Flags;
+use crate::numbers::{bits_in, cut, full, is_outside_signed, signed as signed_number};
+use gpr_flags::{Flags, low};
 
 fn signed_product(a: i64, b: i64) -> i128
     ensures { result ≡ a *ℤ b }

@@ -4,9 +4,8 @@ ghost use Rattle.std.specs.Int.{w128};
 ghost use Rattle.gpr_units.specs.Numbers.{signed_of, low_of, is_outside};
 ghost use Rattle.gpr_units.specs.Divide.{dividend_of, divisor_of, quotient_of, remainder_of, is_refused};
 
-use crate::numbers::{
-    bits_in, cut, full, is_outside_signed, low, low_signed, signed as signed_number,
-};
+use crate::numbers::{bits_in, cut, full, is_outside_signed, low_signed, signed as signed_number};
+use gpr_flags::low;
 
 /// The divisor is 0, or the quotient doesn't fit (#DE).
 #[derive(Clone, Copy)]

@@ -1,21 +1,10 @@
 //! Sums, differences and logic.
 ghost use Rattle.std.specs.Prelude.{◌≡◌, pos, ◌+◌, ◌*◌, ◌<◌, ◌≤◌, ◌^◌, ◌+ℤ◌, ◌-ℤ◌, IsTrue};
-ghost use Rattle.gpr_units.specs.Alu.{with_value, carry_of, sum_value, sum_carry, sum_flags, difference_value, difference_flags, logic_flags, scalar_of, is_alu, alu_value, alu_flags};
+ghost use Rattle.gpr_units.specs.Alu.{carry_of, sum_value, sum_carry, sum_flags, difference_value, difference_flags, logic_flags, scalar_of, is_alu, alu_value, alu_flags};
 
-use crate::numbers::{bits_in, cut, full, is_outside_signed, low, signed};
-use gpr_flags::Flags;
+use crate::numbers::{bits_in, cut, full, is_outside_signed, signed};
+use gpr_flags::{Flags, low};
 use row_table::{GprOp, Op};
-
-/// Sets PF, ZF and SF by a value.
-fn set_by_value(bits: u32, value: u64, f: &mut Flags)
-    requires some { 0 < bits }
-    requires most { bits ≤ 64 }
-    ensures { f.new ≡ with_value bits value f.old }
-{
-    f.pf = (value % 256).count_ones() % 2 == 0;
-    f.zf = value == 0;
-    f.sf = value >= 1 << (bits - 1);
-}
 
 fn signed_sum(a: i64, b: i64, carry: u64) -> i128
     requires { carry < 2 }
@@ -55,7 +44,7 @@ fn add_with(bits: u32, a: u64, b: u64, carry: u64, f: &mut Flags) -> u64
     let signed_sum = signed_sum(signed(bits, a), signed(bits, b), carry);
     f.ovf = is_outside_signed(bits, signed_sum);
     let value = low(bits, sum);
-    set_by_value(bits, value, f);
+    *f = f.with_value(bits, value);
     value
 }
 
@@ -76,7 +65,7 @@ fn subtract_with(bits: u32, a: u64, b: u64, borrow: u64, f: &mut Flags) -> u64
     let signed_difference = signed_difference(signed(bits, a), signed(bits, b), borrow);
     f.ovf = is_outside_signed(bits, signed_difference);
     let value = low(bits, u128::from(a) + full(bits) - whole);
-    set_by_value(bits, value, f);
+    *f = f.with_value(bits, value);
     value
 }
 
@@ -89,7 +78,7 @@ fn logic(bits: u32, value: u64, f: &mut Flags) -> u64
 {
     f.cf = false;
     f.ovf = false;
-    set_by_value(bits, value, f);
+    *f = f.with_value(bits, value);
     value
 }
 

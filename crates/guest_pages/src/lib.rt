@@ -4,6 +4,7 @@
 mod entry;
 mod frame;
 mod lists;
+mod numbers;
 mod pages;
 
 pub use machine_state::{Kind, Miss, Perms};

@@ -1,6 +1,7 @@
 -- Guest memory, and why an access can't be made.
-use Rattle.std.specs.Prelude.{ℕ, zero, suc, ◌+◌, ◌-◌, ◌/◌, ◌^◌, ◌==◌, Bool, if◌then◌else◌, List, [], ◌∷◌, length, slice_index, Option, Some, None, nat_lt, nat_le, ◌&&◌, ◌||◌}
+use Rattle.std.specs.Prelude.{ℕ, zero, suc, ◌+◌, ◌-◌, ◌*◌, ◌/◌, ◌%◌, ◌^◌, ◌==◌, Bool, if◌then◌else◌, List, [], ◌∷◌, length, slice_index, Option, Some, None, nat_lt, nat_le, ◌&&◌, ◌||◌}
 use Rattle.std.specs.Int.RustNames.{bit_and}
+use Rattle.byteorder.specs.Endian.{little_number, little_bytes}
 use Rattle.machine_state.specs.declared.kinds.Kind.{Kind}
 use Rattle.machine_state.specs.declared.kinds.Kind.TheVariants.{Read, Write, Execute}
 use Rattle.machine_state.specs.declared.kinds.Miss.{Miss}
@@ -52,6 +53,14 @@ first_miss perms kind addr (suc len) = or_else (miss_at perms kind addr) (first_
 unfoldable pub bytes_at : (ℕ → ℕ) → ℕ → ℕ → List ℕ
 bytes_at byte addr zero = []
 bytes_at byte addr (suc len) = byte addr ∷ bytes_at byte (addr + 1) len
+
+-- the number in so many bytes from an address up, the lowest first (SDM volume 1, 1.3.1)
+abbrev pub number_at : (ℕ → ℕ) → (addr size : ℕ) → ℕ
+number_at byte addr size = little_number size (bytes_at byte addr size)
+
+-- the lowest bytes of a number, as they stand in memory
+abbrev pub number_bytes : (size number : ℕ) → List ℕ
+number_bytes size number = little_bytes size (number % 2 ^ (8 * size))
 
 -- the bytes from an address up to the first that isn't allowed, at most so many
 unfoldable pub allowed_run : Memory → Kind → ℕ → ℕ → List ℕ

@@ -1,11 +1,20 @@
 //! The plain types that several crates share.
 
 /// What an access does with the bytes that it touches.
-#[derive(Clone, Copy, Debug, PartialEq, Eq)]
+#[derive(Clone, Copy, Debug, Default, PartialEq, Eq)]
 pub enum Kind {
+    #[default]
     Read,
     Write,
     Execute,
+}
+
+/// Bytes that are accessed together, from an address on; by default none.
+#[derive(Clone, Copy, Debug, Default, PartialEq, Eq)]
+pub struct Access {
+    pub kind: Kind,
+    pub addr: u64,
+    pub len: u64,
 }
 
 /// Why the byte at an address can't be had.

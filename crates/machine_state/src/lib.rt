@@ -5,5 +5,5 @@
 mod kinds;
 mod permissions;
 
-pub use kinds::{HostCall, Kind, Miss, RunEnd};
+pub use kinds::{Access, HostCall, Kind, Miss, RunEnd};
 pub use permissions::Perms;

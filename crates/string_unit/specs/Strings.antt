@@ -1,7 +1,8 @@
 -- One iteration of MOVS, CMPS, STOS, LODS and SCAS (SDM volume 2, the pages of these instructions).
-use Rattle.std.specs.Prelude.{ℕ, ◌+◌, ◌-◌, ◌*◌, ◌/◌, ◌%◌, ◌^◌, ◌==◌, Bool, true, false, ◌||◌, nat_lt, if◌then◌else◌, List, [], ◌∷◌, Option, None, slice_index, slice_set}
-use Rattle.byteorder.specs.Endian.{little_number, little_bytes}
+use Rattle.std.specs.Prelude.{ℕ, ◌+◌, ◌-◌, ◌*◌, ◌%◌, ◌^◌, Bool, true, false, if◌then◌else◌, List, [], ◌∷◌, Option, None, slice_index, slice_set}
 use Rattle.gpr_flags.specs.declared.kinds.Flags.{Flags}
+use Rattle.gpr_flags.specs.Registers.{with_register}
+use Rattle.gpr_flags.specs.declared.registers.TheConstants.{RAX, RSI, RDI}
 use Rattle.row_table.specs.declared.operations.Op.{Op}
 use Rattle.row_table.specs.declared.operations.Op.TheVariants.{String}
 use Rattle.row_table.specs.declared.operations.StringOp.{StringOp}
@@ -9,9 +10,9 @@ use Rattle.row_table.specs.declared.operations.StringOp.TheVariants.{Movs, Cmps,
 use Rattle.gpr_units.specs.Alu.{difference_flags}
 use Rattle.machine_state.specs.declared.kinds.Kind.TheVariants.{Read, Write}
 use Rattle.machine_state.specs.declared.kinds.Miss.{Miss}
-use Rattle.machine_state.specs.Memory.{or_else, bytes_at, written}
+use Rattle.machine_state.specs.Memory.{or_else, bytes_at, written, number_at, number_bytes}
 use Rattle.guest_pages.specs.Table.{Table, blocked}
-use Rattle.string_unit.specs.declared.kinds.Access.{Access}
+use Rattle.machine_state.specs.declared.kinds.Access.{Access}
 
 -- the operations on strings
 abbrev pub is_string : Op → Bool
@@ -23,10 +24,6 @@ abbrev pub string_op : Op → StringOp
 string_op (String op) = op
 string_op _ = Movs
 
--- the sizes of their operands, in bytes
-abbrev pub is_size : ℕ → Bool
-is_size size = size == 1 || size == 2 || size == 4 || size == 8
-
 -- ---- where the operands are
 -- how many bits of rsi and rdi count: with prefix 67 the low 32 (SDM volume 1, 3.3.7)
 abbrev pub place_bits : (wrap32 : Bool) → ℕ
@@ -34,11 +31,11 @@ place_bits wrap32 = if wrap32 then 32 else 64
 
 -- the operand at rsi, of which the base of a segment counts
 unfoldable pub source_place : (wrap32 : Bool) (base : ℕ) → List ℕ → ℕ
-source_place wrap32 base gprs = (slice_index gprs 6 % 2 ^ place_bits wrap32 + base) % 2 ^ 64
+source_place wrap32 base gprs = (slice_index gprs RSI % 2 ^ place_bits wrap32 + base) % 2 ^ 64
 
 -- the operand at rdi, of which no base does
 unfoldable pub destination_place : (wrap32 : Bool) → List ℕ → ℕ
-destination_place wrap32 gprs = slice_index gprs 7 % 2 ^ place_bits wrap32
+destination_place wrap32 gprs = slice_index gprs RDI % 2 ^ place_bits wrap32
 
 -- ---- what is accessed
 abbrev pub reads : (addr size : ℕ) → Access
@@ -61,15 +58,6 @@ first_blocked table [] = None
 first_blocked table (access ∷ rest) = or_else (blocked table access.kind access.addr access.len) (first_blocked table rest)
 
 -- ---- what comes of it
--- the number of so many bytes from an address on, the lowest first
-abbrev pub number_at : (ℕ → ℕ) → (addr size : ℕ) → ℕ
-number_at byte addr size = little_number size (bytes_at byte addr size)
-
--- a register where a number of n bits was written to it: 8 and 16 bits leave the others, 32 bits clear the upper half
--- (SDM volume 1, 3.4.1.1)
-abbrev pub register_with : (n old number : ℕ) → ℕ
-register_with n old number = if nat_lt n 32 then old / 2 ^ n * 2 ^ n + number % 2 ^ n else number % 2 ^ n
-
 -- rsi or rdi moves by the size, down where DF is set (SDM volume 1, 3.4.3.2); with prefix 67 the upper half is cleared
 abbrev pub moved : (size : ℕ) (wrap32 down : Bool) → ℕ → ℕ
 moved size wrap32 down index = (if down then index + 2 ^ 64 - size else index + size) % 2 ^ place_bits wrap32
@@ -78,17 +66,14 @@ moved size wrap32 down index = (if down then index + 2 ^ 64 - size else index + 
 abbrev pub passed : (register size : ℕ) (wrap32 down : Bool) → List ℕ → List ℕ
 passed register size wrap32 down gprs = slice_set gprs register (moved size wrap32 down (slice_index gprs register))
 
--- the registers where a number of the size was written to rax
-abbrev pub loaded : (size number : ℕ) → List ℕ → List ℕ
-loaded size number gprs = slice_set gprs 0 (register_with (8 * size) (slice_index gprs 0) number)
-
 -- the registers afterwards, by DF, the place of the source and the bytes of memory before
 unfoldable pub string_gprs : StringOp → (size : ℕ) (wrap32 down : Bool) (source : ℕ) → (ℕ → ℕ) → List ℕ → List ℕ
-string_gprs Movs size wrap32 down source byte gprs = passed 7 size wrap32 down (passed 6 size wrap32 down gprs)
-string_gprs Cmps size wrap32 down source byte gprs = passed 7 size wrap32 down (passed 6 size wrap32 down gprs)
-string_gprs Stos size wrap32 down source byte gprs = passed 7 size wrap32 down gprs
-string_gprs Lods size wrap32 down source byte gprs = passed 6 size wrap32 down (loaded size (number_at byte source size) gprs)
-string_gprs Scas size wrap32 down source byte gprs = passed 7 size wrap32 down gprs
+string_gprs Movs size wrap32 down source byte gprs = passed RDI size wrap32 down (passed RSI size wrap32 down gprs)
+string_gprs Cmps size wrap32 down source byte gprs = passed RDI size wrap32 down (passed RSI size wrap32 down gprs)
+string_gprs Stos size wrap32 down source byte gprs = passed RDI size wrap32 down gprs
+string_gprs Lods size wrap32 down source byte gprs =
+    passed RSI size wrap32 down (with_register RAX (8 * size) (number_at byte source size) gprs)
+string_gprs Scas size wrap32 down source byte gprs = passed RDI size wrap32 down gprs
 
 -- the flags of a difference of two numbers, of which the size's bits count, as CMP sets them
 abbrev pub compared : (size a b : ℕ) → Flags → Flags
@@ -101,13 +86,12 @@ string_flags Cmps size source destination byte gprs f =
     compared size (number_at byte source size) (number_at byte destination size) f
 string_flags Stos size source destination byte gprs f = f
 string_flags Lods size source destination byte gprs f = f
-string_flags Scas size source destination byte gprs f = compared size (slice_index gprs 0) (number_at byte destination size) f
+string_flags Scas size source destination byte gprs f = compared size (slice_index gprs RAX) (number_at byte destination size) f
 
 -- the bytes of memory afterwards, by the places and the registers before
 unfoldable pub string_byte : StringOp → (size source destination : ℕ) → List ℕ → (ℕ → ℕ) → ℕ → ℕ
 string_byte Movs size source destination gprs byte = written byte destination (bytes_at byte source size)
 string_byte Cmps size source destination gprs byte = byte
-string_byte Stos size source destination gprs byte =
-    written byte destination (little_bytes size (slice_index gprs 0 % 2 ^ (8 * size)))
+string_byte Stos size source destination gprs byte = written byte destination (number_bytes size (slice_index gprs RAX))
 string_byte Lods size source destination gprs byte = byte
 string_byte Scas size source destination gprs byte = byte

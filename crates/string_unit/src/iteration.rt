@@ -4,14 +4,15 @@ ghost use Rattle.machine_state.specs.Memory.{Swap};
 ghost use Rattle.guest_pages.specs.Table.{answer_of};
 ghost use Rattle.guest_pages.specs.Pages.{table_of, byte_of};
 ghost use Rattle.guest_pages.specs.Changes.{KeepsTable};
-ghost use Rattle.string_unit.specs.Strings.{is_string, string_op, is_size, source_place as source_place_of, destination_place as destination_place_of, string_accesses, first_blocked, compared, string_gprs, string_flags, string_byte};
+ghost use Rattle.gpr_flags.specs.Registers.{is_size};
+ghost use Rattle.string_unit.specs.Strings.{is_string, string_op, source_place as source_place_of, destination_place as destination_place_of, string_accesses, first_blocked, compared, string_gprs, string_flags, string_byte};
 
-use crate::accesses::check;
-use crate::memory::{copy, load, store};
-use crate::registers::{destination_place, load_rax, pass, pass_both, source_place};
-use gpr_flags::{Flags, Gprs};
+use crate::access_list::{accesses, check};
+use crate::memory::copy;
+use crate::registers::{destination_place, pass, pass_both, source_place};
+use gpr_flags::{Flags, Gprs, RAX, RDI, RSI};
 use gpr_units::alu;
-use guest_pages::{Miss, Pages};
+use guest_pages::{Kind, Miss, Pages};
 use row_table::{GprOp, Op, StringOp};
 
 /// Which operation on strings it is.
@@ -61,24 +62,24 @@ fn transfer(
             pass_both(size, wrap32, down, g);
         }
         StringOp::Cmps => {
-            let a = load(pages, source, size);
-            let b = load(pages, destination, size);
+            let a = pages.load(source, size, Kind::Read);
+            let b = pages.load(destination, size, Kind::Read);
             compare(size, a, b, f);
             pass_both(size, wrap32, down, g);
         }
         StringOp::Stos => {
-            store(pages, destination, size, g.get(0));
-            pass(7, size, wrap32, down, g);
+            pages.store(destination, size, g.get(RAX));
+            pass(RDI, size, wrap32, down, g);
         }
         StringOp::Lods => {
-            let number = load(pages, source, size);
-            load_rax(size, number, g);
-            pass(6, size, wrap32, down, g);
+            let number = pages.load(source, size, Kind::Read);
+            g.write(RAX, size, number);
+            pass(RSI, size, wrap32, down, g);
         }
         StringOp::Scas => {
-            let b = load(pages, destination, size);
-            compare(size, g.get(0), b, f);
-            pass(7, size, wrap32, down, g);
+            let b = pages.load(destination, size, Kind::Read);
+            compare(size, g.get(RAX), b, f);
+            pass(RDI, size, wrap32, down, g);
         }
     }
 }
@@ -113,11 +114,7 @@ pub fn iterate(
     let op = string_operation(op);
     let source = source_place(wrap32, base, g);
     let destination = destination_place(wrap32, g);
-    match check(pages, op, size, source, destination) {
-        Ok(()) => {
-            transfer(op, size, wrap32, source, destination, g, f, pages);
-            Ok(())
-        }
-        Err(miss) => Err(miss),
-    }
+    check(pages, &accesses(op, size, source, destination))?;
+    transfer(op, size, wrap32, source, destination, g, f, pages);
+    Ok(())
 }

@@ -1,15 +1,15 @@
 //! Strings in memory: one iteration of MOVS, CMPS, STOS, LODS and SCAS.
 #![tactic(auto)]
 
-mod accesses;
+mod access_list;
 mod iteration;
-mod kinds;
 mod memory;
 mod registers;
 
+pub use access_list::accesses;
 pub use guest_pages::{Kind, Miss, Pages};
 pub use iteration::iterate;
-pub use kinds::Access;
+pub use registers::{destination_place, index, source_place};
 
 #[cfg(test)]
 mod tests;

@@ -8,7 +8,7 @@ use Rattle.guest_pages.specs.Table.{Table, perms_in, away_at, blocked}
 use Rattle.guest_pages.specs.Changes.{AllResident}
 use Rattle.guest_pages.specs.Pages.{PagesValue, table_of}
 use Rattle.guest_pages.proofs.Walks.{blocked_resident}
-use Rattle.string_unit.specs.declared.kinds.Access.{Access}
+use Rattle.machine_state.specs.declared.kinds.Access.{Access}
 use Rattle.core_step.specs.declared.kinds.Stop.{Stop}
 use Rattle.core_step.specs.Access.{stop_or, walk}
 use Rattle.core_step.specs.Machine.{needed}

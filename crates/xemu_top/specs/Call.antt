@@ -1,5 +1,6 @@
 -- System calls: the number and the answer are in rax, the arguments in rdi, rsi and rdx (System V ABI for AMD64, A.2.1).
 use Rattle.std.specs.Prelude.{ℕ, ◌-◌, ◌%◌, ◌^◌, ◌==◌, ◌++◌, Bool, if◌then◌else◌, List, [], Option, Some, None, is_none, min, slice_index, slice_set}
+use Rattle.gpr_flags.specs.declared.registers.TheConstants.{RAX, RDX, RSI, RDI}
 use Rattle.machine_state.specs.declared.kinds.Kind.TheVariants.{Read}
 use Rattle.machine_state.specs.declared.kinds.RunEnd.{RunEnd}
 use Rattle.machine_state.specs.declared.kinds.RunEnd.TheVariants.{Exit}
@@ -18,22 +19,22 @@ goes_on w = record { world = w; end = None }
 abbrev pub ends : RunEnd → World → Ran
 ends end w = record { world = w; end = Some end }
 
--- general registers by their numbers (SDM volume 2, table 2-2 of 2.2.1)
+-- the registers of a call
 abbrev pub rax : State → ℕ
-rax s = slice_index s.gprs 0
+rax s = slice_index s.gprs RAX
 
 abbrev pub rdx : State → ℕ
-rdx s = slice_index s.gprs 2
+rdx s = slice_index s.gprs RDX
 
 abbrev pub rsi : State → ℕ
-rsi s = slice_index s.gprs 6
+rsi s = slice_index s.gprs RSI
 
 abbrev pub rdi : State → ℕ
-rdi s = slice_index s.gprs 7
+rdi s = slice_index s.gprs RDI
 
 -- the state with an answer in rax
 abbrev pub answered : State → ℕ → State
-answered s value = record s { gprs = slice_set s.gprs 0 value }
+answered s value = record s { gprs = slice_set s.gprs RAX value }
 
 -- a refusal as a register has it: the error's number, negative
 abbrev pub refusal : ℕ → ℕ

@@ -13,17 +13,10 @@ ghost use Rattle.xemu_top.specs.Following.{FollowsAt, IsCaused, SignalFits, stop
 ghost use Rattle.xemu_top.specs.Streams.{stream_of, descriptor_of};
 
 use core_step::Machine;
+use gpr_flags::{RAX, RDI, RDX, RSI};
 use guest_pages::{Kind, Pages};
 use host_edge::{Failed, Sink};
 use machine_state::{HostCall, RunEnd};
-
-const RAX: u8 = 0;
-
-const RDX: u8 = 2;
-
-const RSI: u8 = 6;
-
-const RDI: u8 = 7;
 
 /// EBADF 9, EFAULT 14 and ENOSYS 38, negative, as a register has them.
 const BAD_DESCRIPTOR: u64 = u64::MAX - 9 + 1;

@@ -3,6 +3,7 @@ ghost use Rattle.std.specs.Prelude.{◌≡◌, ◌≤◌, IfOk, length};
 ghost use Rattle.host_edge.specs.NamedFiles.{named};
 
 use super::*;
+use gpr_flags::{RAX, RDX};
 use host_edge::{MemHost, MemSink, MemSource};
 use machine_state::HostCall;
 use std::alloc::{AllocError, Global};
@@ -85,6 +86,19 @@ fn steps_of(ended: &Ended) -> Option<u64> {
     }
 }
 
+/// rip, rax, rdx and the flags.
+fn registers_of(ended: &Ended) -> Option<[u64; 4]> {
+    match &ended.machine {
+        Some(machine) => Some([
+            machine.rip,
+            machine.gprs.get(RAX),
+            machine.gprs.get(RDX),
+            machine.flags.word(),
+        ]),
+        None => None,
+    }
+}
+
 #[test]
 fn hello_prints_and_exits_and_its_variants_end_as_they_should(rt: HostRuntime) -> Result<(), Fail> {
     let alloc = rt.alloc();
@@ -158,6 +172,29 @@ fn code_ends_as_it_should(rt: HostRuntime) -> Result<(), Fail> {
         assert_eq!(rt; left.ended.status, status);
         assert_eq!(rt; left.out.bytes().len(), 0);
         assert_eq!(rt; steps_of(&left.ended), Some(steps));
+    }
+    Ok(())
+}
+
+/// Each row has the code, and rip, rax, rdx and the flags of the machine that its last instruction leaves, which ends it.
+#[test]
+fn a_fault_leaves_the_registers(rt: HostRuntime) -> Result<(), Fail> {
+    let rows: [(&[u8], [u64; 4]); 3] = [
+        // mov al, 127; add al, 1; int3, which rip is behind
+        (&[0xB0, 0x7F, 0x04, 0x01, 0xCC], [0x40_007D, 0x80, 0, 0xA92]),
+        // mov eax, 0x80000000; cdq; mov ecx, -1; idiv ecx
+        (
+            &[
+                0xB8, 0, 0, 0, 0x80, 0x99, 0xB9, 0xFF, 0xFF, 0xFF, 0xFF, 0xF7, 0xF9,
+            ],
+            [0x40_0083, 0x8000_0000, 0xFFFF_FFFF, 0x202],
+        ),
+        // xor ecx, ecx; div ecx
+        (&[0x31, 0xC9, 0xF7, 0xF1], [0x40_007A, 0, 0, 0x246]),
+    ];
+    for (code, registers) in rows {
+        let left = run_command(rt.alloc(), ["run", "hello"], &with_code(code), 100, &[])?;
+        assert_eq!(rt; registers_of(&left.ended), Some(registers));
     }
     Ok(())
 }

@@ -1,8 +1,7 @@
-use Rattle.std.proofs.Common.{◌≡◌, ℕ, None, Ok, Err, sym, ap, ◌∙◌, subst}
+use Rattle.std.proofs.Common.{◌≡◌, ℕ, None, sym, ap, ◌∙◌, subst}
 use Rattle.guest_pages.specs.Table.{answer_of}
 use Rattle.guest_pages.specs.Pages.{table_of}
 use Rattle.string_unit.specs.Strings.{string_accesses, first_blocked}
-use Rattle.core_step.specs.Size.{bytes_in}
 use Rattle.core_step.specs.Strings.{source_of, destination_of}
 use Rattle.core_step.proofs.Walks.{nothing-blocked}
 use Rattle.core_step.proofs.strings.iterate_once.Goals as goal

@@ -5,7 +5,7 @@ use Rattle.core_step.specs.Access.{operand_access, walk}
 use Rattle.core_step.proofs.Walks.{free-memory}
 use Rattle.core_step.proofs.values.value.Goals as goal
 
-pub load-requires : goal.load-requires
-load-requires c =
+pub load-requires-clause-ready : goal.load-requires-clause-ready
+load-requires-clause-ready c =
     let P : Operand → Type 0 = λ o. walk (table_of c.args.pages.now) (operand_access c.args.kind o c.args.size) ≡ None in
-    free-memory _ _ _ _ (subst P c.in-Memory.is c.requires.ready)
+    rw c.bytes.ensures.value (free-memory _ _ _ _ (subst P c.in-Memory.is c.requires.ready))

@@ -14,7 +14,7 @@ use Rattle.core_step.proofs.machine.Machine.complete.Goals as goal
 pub old_value-a-requires-clause-ready : goal.old_value-a-requires-clause-ready
 old_value-a-requires-clause-ready c =
     let P : Use → Type 0 = λ u. walk (table_of c.args.self.now.pages) (operand_access (kind_of u) c.args.i.now.destination c.args.i.now.size) ≡ None in
-    subst P (sym c.destination_use-use_of_it.ensures) (both-free _ _ c.requires.ready).1
+    subst P (sym c.destination_use-usage.ensures) (both-free _ _ c.requires.ready).1
 
 pub value-b-requires-clause-ready : goal.value-b-requires-clause-ready
 value-b-requires-clause-ready c = (both-free _ _ c.requires.ready).0
@@ -26,7 +26,7 @@ returns-clause-after c w =
     let i = c.args.i.now in
     let a : c.old_value-a.result ≡ old_value (use_of i.op) i.destination i.size old.gprs (byte_of old.pages w) =
     c.old_value-a.ensures.value w
-    ∙ ap (λ (u : Use). old_value u i.destination i.size old.gprs (byte_of old.pages w)) c.destination_use-use_of_it.ensures in
+    ∙ ap (λ (u : Use). old_value u i.destination i.size old.gprs (byte_of old.pages w)) c.destination_use-usage.ensures in
     let b : c.value-b.result ≡ value_of i.source i.source_size old.gprs (byte_of old.pages w) = c.value-b.ensures.value w in
     let third : c.register_value-c.result ≡ register_value i.third i.third_size old.gprs = c.register_value-c.ensures.value in
     after-is i c.outcome-outcome.result (outcome_in i (state_of old w)) (state_of old w) (state_of c.leave.new.self w)

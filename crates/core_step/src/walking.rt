@@ -1,0 +1,155 @@
+//! The access list of an instruction, and why its accesses can't be made, where they can't.
+ghost use Rattle.std.specs.Prelude.{◌≡◌, ◌≤◌, ◌<◌, ◌+◌, ◌++◌, Some, None, MatchResult};
+ghost use Rattle.arrayvec.specs.ArrayVec.{array_vec_len};
+ghost use Rattle.guest_pages.specs.Pages.{table_of};
+ghost use Rattle.core_step.specs.Access.{operand_access, kind_of, accesses_of, access_fault, acted_by, walk};
+ghost use Rattle.core_step.specs.Strings.{strings_access};
+ghost use Rattle.core_step.specs.Pair.{pair_access};
+ghost use Rattle.core_step.specs.Plan.{plan_accesses};
+
+use crate::acted::Acted;
+use crate::kinds::{Instruction, Operand, PairPlan, Plan, Size, Stop, StringPlan, Use};
+use crate::operands::destination_use;
+use crate::pair::{is_misaligned, pair_len};
+use crate::strings::is_over;
+use arrayvec::ArrayVec;
+use gpr_flags::{Fault, Gprs};
+use guest_pages::Pages;
+use machine_state::{Access, Kind, Miss};
+use string_unit::{accesses as iteration_accesses, destination_place, source_place};
+
+/// The kind of the access of a destination.
+fn kind_for(destination: Use) -> Kind
+    ensures { result ≡ kind_of destination }
+{
+    match destination {
+        Use::Read => Kind::Read,
+        Use::Write | Use::Update => Kind::Write,
+    }
+}
+
+/// Adds the access of an operand, which is one where it is in memory.
+fn add(list: &mut ArrayVec<Access, 2>, kind: Kind, operand: Operand, size: Size)
+    requires room { array_vec_len list.old < 2 }
+    ensures items { list.new.items ≡ list.old.items ++ operand_access kind operand size }
+    ensures len { array_vec_len list.new ≤ array_vec_len list.old + 1 }
+{
+    if let Operand::Memory(addr) = operand {
+        list.push(Access {
+            kind,
+            addr,
+            len: u64::from(size.bytes()),
+        });
+    }
+}
+
+/// The accesses of an instruction whose operands are found: the source's first, and the destination's last.
+#[tactic(auto, unfolding(crate::specs::Access::accesses_of))]
+fn operand_accesses(i: &Instruction) -> ArrayVec<Access, 2>
+    ensures { result.items ≡ accesses_of i.now }
+{
+    let mut list = ArrayVec::new();
+    add(&mut list, Kind::Read, i.source, i.source_size);
+    add(
+        &mut list,
+        kind_for(destination_use(i.op)),
+        i.destination,
+        i.size,
+    );
+    list
+}
+
+/// The accesses of an instruction on strings.
+#[tactic(auto, unfolding(crate::specs::Strings::strings_access))]
+fn string_accesses(i: &StringPlan, gprs: &Gprs) -> ArrayVec<Access, 2>
+    ensures { result.items ≡ strings_access i.now gprs.now }
+{
+    if is_over(i, gprs) {
+        return ArrayVec::new();
+    }
+    let source = source_place(i.wrap32, i.base, gprs);
+    let destination = destination_place(i.wrap32, gprs);
+    iteration_accesses(i.op, i.size.bytes(), source, destination)
+}
+
+/// The access of CMPXCHG8B or CMPXCHG16B.
+#[tactic(auto, unfolding(crate::specs::Pair::pair_access))]
+fn pair_accesses(i: &PairPlan) -> ArrayVec<Access, 2>
+    ensures { result.items ≡ pair_access i.now }
+{
+    let mut list = ArrayVec::new();
+    if !is_misaligned(i) {
+        list.push(Access {
+            kind: Kind::Write,
+            addr: i.addr,
+            len: pair_len(i) as u64,
+        });
+    }
+    list
+}
+
+/// The access list of an instruction.
+fn accesses(plan: &Plan, gprs: &Gprs) -> ArrayVec<Access, 2>
+    ensures { result.items ≡ plan_accesses plan.now gprs.now }
+{
+    match plan {
+        Plan::Plain(i) => operand_accesses(i),
+        Plan::OnStrings(i) => string_accesses(i, gprs),
+        Plan::OnPair(i) => pair_accesses(i),
+    }
+}
+
+/// Walks an access list.
+#[tactic(auto, unfolding(crate::specs::Access::walk))]
+fn check(pages: &Pages, accesses: &[Access]) -> Result<(), Stop>
+    ensures { MatchResult result (λ _. walk (table_of pages.now) accesses.now ≡ None)
+        (λ stop. walk (table_of pages.now) accesses.now ≡ Some stop) }
+{
+    for access in accesses {
+        let kind = access.kind;
+        pages
+            .ready(access.addr, access.len, kind)
+            .map_err(|miss| Stop { kind, miss })?;
+    }
+    Ok(())
+}
+
+/// Walks the access list of an instruction.
+pub(crate) fn check_all(pages: &Pages, plan: &Plan, gprs: &Gprs) -> Result<(), Stop>
+    ensures { MatchResult result (λ _. walk (table_of pages.now) (plan_accesses plan.now gprs.now) ≡ None)
+        (λ stop. walk (table_of pages.now) (plan_accesses plan.now gprs.now) ≡ Some stop) }
+{
+    check(pages, &accesses(plan, gprs))
+}
+
+/// The fault of an access.
+fn fault(kind: Kind, miss: Miss) -> Fault
+    ensures { result ≡ access_fault kind miss }
+{
+    let write = kind == Kind::Write;
+    match miss {
+        Miss::Unmapped(addr) => Fault::Page {
+            addr,
+            write,
+            fetch: false,
+            mapped: false,
+        },
+        Miss::Denied(addr) => Fault::Page {
+            addr,
+            write,
+            fetch: false,
+            mapped: true,
+        },
+        Miss::NonCanonical(_) | Miss::Away(_) => Fault::General,
+    }
+}
+
+/// The answer of an instruction whose accesses can't be made now.
+pub(crate) fn answer(stop: Stop) -> Acted
+    ensures { result ≡ acted_by stop }
+{
+    match stop.miss {
+        Miss::Away(slot) => Acted::Need(slot),
+        miss => Acted::Trap(fault(stop.kind, miss)),
+    }
+}
