@@ -132,7 +132,7 @@ fn check_row(rt: &impl Abort, alloc: Global, row: &Row) -> Result<(), Fail> {
 
 #[test]
 fn moves_are_those_of_a_processor(rt: HostRuntime) -> Result<(), Fail> {
-    for row in &processor::MOVES {
+    for row in processor::move_rows() {
         check_row(&rt, rt.alloc(), row)?;
     }
     Ok(())
@@ -140,7 +140,7 @@ fn moves_are_those_of_a_processor(rt: HostRuntime) -> Result<(), Fail> {
 
 #[test]
 fn conversions_are_those_of_a_processor(rt: HostRuntime) -> Result<(), Fail> {
-    for row in &processor::CONVERSIONS {
+    for row in processor::conversion_rows() {
         check_row(&rt, rt.alloc(), row)?;
     }
     Ok(())
@@ -148,7 +148,7 @@ fn conversions_are_those_of_a_processor(rt: HostRuntime) -> Result<(), Fail> {
 
 #[test]
 fn the_stack_is_that_of_a_processor(rt: HostRuntime) -> Result<(), Fail> {
-    for row in &processor::STACK {
+    for row in processor::stack_rows() {
         check_row(&rt, rt.alloc(), row)?;
     }
     Ok(())
@@ -156,7 +156,7 @@ fn the_stack_is_that_of_a_processor(rt: HostRuntime) -> Result<(), Fail> {
 
 #[test]
 fn jumps_are_those_of_a_processor(rt: HostRuntime) -> Result<(), Fail> {
-    for row in &processor::JUMPS {
+    for row in processor::jump_rows() {
         check_row(&rt, rt.alloc(), row)?;
     }
     Ok(())
@@ -164,7 +164,7 @@ fn jumps_are_those_of_a_processor(rt: HostRuntime) -> Result<(), Fail> {
 
 #[test]
 fn flags_are_those_of_a_processor(rt: HostRuntime) -> Result<(), Fail> {
-    for row in &processor::FLAGS {
+    for row in processor::flag_rows() {
         check_row(&rt, rt.alloc(), row)?;
     }
     Ok(())
@@ -172,7 +172,7 @@ fn flags_are_those_of_a_processor(rt: HostRuntime) -> Result<(), Fail> {
 
 #[test]
 fn sums_are_those_of_a_processor(rt: HostRuntime) -> Result<(), Fail> {
-    for row in &processor::SUMS {
+    for row in processor::sum_rows() {
         check_row(&rt, rt.alloc(), row)?;
     }
     Ok(())
@@ -180,7 +180,7 @@ fn sums_are_those_of_a_processor(rt: HostRuntime) -> Result<(), Fail> {
 
 #[test]
 fn bits_are_those_of_a_processor(rt: HostRuntime) -> Result<(), Fail> {
-    for row in &processor::BITS {
+    for row in processor::bit_rows() {
         check_row(&rt, rt.alloc(), row)?;
     }
     Ok(())
@@ -188,7 +188,7 @@ fn bits_are_those_of_a_processor(rt: HostRuntime) -> Result<(), Fail> {
 
 #[test]
 fn strings_are_those_of_a_processor(rt: HostRuntime) -> Result<(), Fail> {
-    for (steps, row) in &processor::STRINGS {
+    for (steps, row) in processor::string_rows() {
         let mut m = machine(&rt, rt.alloc(), row.0)?;
         begin(&rt, &mut m, &row.1);
         for _ in 0..*steps {
@@ -202,7 +202,7 @@ fn strings_are_those_of_a_processor(rt: HostRuntime) -> Result<(), Fail> {
 
 #[test]
 fn pairs_are_those_of_a_processor(rt: HostRuntime) -> Result<(), Fail> {
-    for row in &processor::PAIRS {
+    for row in processor::pair_rows() {
         check_row(&rt, rt.alloc(), row)?;
     }
     Ok(())

@@ -10,7 +10,7 @@ pub type Row = (&'static [u8], State, State, u64);
 
 // MOV of registers, memory and numbers.
 #[rattlefmt::skip]
-pub const MOVES: [Row; 33] = [
+static MOVES: [Row; 33] = [
     (&[0x88, 0xE0], (&[], 0x203, &[]), (&[(0, 0x8877_6655_4433_2222)], 0x203, &[]), 0x40_0102),
     (&[0x88, 0xC4], (&[], 0x203, &[]), (&[(0, 0x8877_6655_4433_1111)], 0x203, &[]), 0x40_0102),
     (&[0x40, 0x88, 0xE0], (&[], 0x203, &[]), (&[(0, 0x8877_6655_4433_2200)], 0x203, &[]), 0x40_0103),
@@ -48,7 +48,7 @@ pub const MOVES: [Row; 33] = [
 
 // MOVSXD, MOVZX, MOVSX, LEA, XCHG, CMOVcc, SETcc, conversions and BSWAP.
 #[rattlefmt::skip]
-pub const CONVERSIONS: [Row; 41] = [
+static CONVERSIONS: [Row; 41] = [
     (&[0x48, 0x63, 0xC2], (&[], 0x203, &[]), (&[(0, 0xFFFF_FFFF_89AB_CDEF)], 0x203, &[]), 0x40_0103),
     (&[0x66, 0x63, 0xC2], (&[], 0x203, &[]), (&[(0, 0x8877_6655_4433_CDEF)], 0x203, &[]), 0x40_0103),
     (&[0x0F, 0xB6, 0xC4], (&[], 0x203, &[]), (&[(0, 0x22)], 0x203, &[]), 0x40_0103),
@@ -94,7 +94,7 @@ pub const CONVERSIONS: [Row; 41] = [
 
 // PUSH, POP, LEAVE, CALL and RET.
 #[rattlefmt::skip]
-pub const STACK: [Row; 37] = [
+static STACK: [Row; 37] = [
     (&[0x50], (&[], 0x203, &[]), (&[(4, 0x50_07F8)], 0x203, &[(0x50_07F8, &[0x11, 0x22, 0x33, 0x44, 0x55, 0x66, 0x77, 0x88])]), 0x40_0101),
     (&[0x66, 0x50], (&[], 0x203, &[]), (&[(4, 0x50_07FE)], 0x203, &[(0x50_07FE, &[0x11, 0x22])]), 0x40_0102),
     (&[0x54], (&[], 0x203, &[]), (&[(4, 0x50_07F8)], 0x203, &[(0x50_07F8, &[0x00, 0x08, 0x50, 0x00, 0x00, 0x00, 0x00, 0x00])]), 0x40_0101),
@@ -136,7 +136,7 @@ pub const STACK: [Row; 37] = [
 
 // Jumps and loops.
 #[rattlefmt::skip]
-pub const JUMPS: [Row; 29] = [
+static JUMPS: [Row; 29] = [
     (&[0xEB, 0x10], (&[], 0x203, &[]), (&[], 0x203, &[]), 0x40_0112),
     (&[0x72, 0x10], (&[], 0x203, &[]), (&[], 0x203, &[]), 0x40_0112),
     (&[0x73, 0x10], (&[], 0x203, &[]), (&[], 0x203, &[]), 0x40_0102),
@@ -170,7 +170,7 @@ pub const JUMPS: [Row; 29] = [
 
 // Flags, and what depends on them. XOR leaves AF open, which was clear before.
 #[rattlefmt::skip]
-pub const FLAGS: [Row; 34] = [
+static FLAGS: [Row; 34] = [
     (&[0xF5], (&[], 0x203, &[]), (&[], 0x202, &[]), 0x40_0101),
     (&[0xF5], (&[], 0x202, &[]), (&[], 0x203, &[]), 0x40_0101),
     (&[0xF5], (&[], 0xED7, &[]), (&[], 0xED6, &[]), 0x40_0101),
@@ -209,7 +209,7 @@ pub const FLAGS: [Row; 34] = [
 
 // Sums, logic, products and quotients. Flags that the SDM leaves open are as before.
 #[rattlefmt::skip]
-pub const SUMS: [Row; 25] = [
+static SUMS: [Row; 25] = [
     (&[0x48, 0x01, 0xD0], (&[], 0x203, &[]), (&[(0, 0x899A_ABBC_CDDE_F000)], 0x296, &[]), 0x40_0103),
     (&[0x10, 0x43, 0x07], (&[], 0x203, &[]), (&[], 0x206, &[(0x50_0107, &[0x44])]), 0x40_0103),
     (&[0x29, 0x03], (&[], 0x203, &[]), (&[], 0x287, &[(0x50_0100, &[0xF0, 0xE5, 0xDB, 0xD1])]), 0x40_0102),
@@ -239,7 +239,7 @@ pub const SUMS: [Row; 25] = [
 
 // Shifts, rotates, single bits, scans, exchanges with arithmetic, and the moves that turn bytes round.
 #[rattlefmt::skip]
-pub const BITS: [Row; 31] = [
+static BITS: [Row; 31] = [
     (&[0xD3, 0x23], (&[], 0x203, &[]), (&[], 0x282, &[(0x50_0100, &[0x08, 0x40, 0x78, 0xB0])]), 0x40_0102),
     (&[0x48, 0xC1, 0xF8, 0x05], (&[], 0x203, &[]), (&[(0, 0xFC43_BB32_AA21_9910)], 0x283, &[]), 0x40_0104),
     (&[0xD2, 0xD0], (&[], 0x203, &[]), (&[(0, 0x8877_6655_4433_228C)], 0x202, &[]), 0x40_0102),
@@ -276,7 +276,7 @@ pub const BITS: [Row; 31] = [
 // MOVS, CMPS, STOS, LODS and SCAS, each with the number of steps. Between two iterations the processor shows the flags as they
 // were before the instruction, so no row of a comparison ends there.
 #[rattlefmt::skip]
-pub const STRINGS: [(u64, Row); 21] = [
+static STRINGS: [(u64, Row); 21] = [
     (3, (&[0xF3, 0xA4], (&[(1, 3), (6, 0x50_0180), (7, 0x50_0300)], 0x203, &[]), (&[(1, 0), (6, 0x50_0183), (7, 0x50_0303)], 0x203, &[(0x50_0300, &[0x81, 0x88, 0x8F])]), 0x40_0102)),
     (1, (&[0xF3, 0xA4], (&[(1, 3), (6, 0x50_0180), (7, 0x50_0300)], 0x203, &[]), (&[(1, 2), (6, 0x50_0181), (7, 0x50_0301)], 0x203, &[(0x50_0300, &[0x81])]), 0x40_0100)),
     (2, (&[0xF2, 0xA4], (&[(1, 3), (6, 0x50_0180), (7, 0x50_0300)], 0x203, &[]), (&[(1, 1), (6, 0x50_0182), (7, 0x50_0302)], 0x203, &[(0x50_0300, &[0x81, 0x88])]), 0x40_0100)),
@@ -302,7 +302,7 @@ pub const STRINGS: [(u64, Row); 21] = [
 
 // CMPXCHG8B and CMPXCHG16B.
 #[rattlefmt::skip]
-pub const PAIRS: [Row; 6] = [
+static PAIRS: [Row; 6] = [
     (&[0x0F, 0xC7, 0x0B], (&[(0, 0x1122_3344_5566_7788), (2, 0x99), (3, 0x50_0100)], 0x203, &[]), (&[(0, 0x160F_0801), (2, 0x322B_241D)], 0x203, &[]), 0x40_0103),
     (&[0x0F, 0xC7, 0x0B], (&[(0, 0xFFFF_FFFF_160F_0801), (2, 0xFFFF_FFFF_322B_241D), (3, 0x50_0100)], 0xA97, &[]), (&[], 0xAD7, &[(0x50_0100, &[0x00, 0x01, 0x50, 0x00, 0x03, 0x00, 0x00, 0x00])]), 0x40_0103),
     (&[0x48, 0x0F, 0xC7, 0x0B], (&[(0, 0x322B_241D_160F_0801), (2, 0x6A63_5C55_4E47_4039), (3, 0x50_0100)], 0x202, &[]), (&[], 0x242, &[(0x50_0100, &[0x00, 0x01, 0x50, 0x00, 0x00, 0x00, 0x00, 0x00, 0x03, 0x00, 0x00, 0x00, 0x00, 0x00, 0x00, 0x00])]), 0x40_0104),
@@ -310,3 +310,40 @@ pub const PAIRS: [Row; 6] = [
     (&[0x0F, 0xC7, 0x4B, 0x05], (&[(3, 0x50_0100)], 0x203, &[]), (&[(0, 0x3932_2B24), (2, 0x554E_4740)], 0x203, &[]), 0x40_0104),
     (&[0xF0, 0x0F, 0xC7, 0x0B], (&[(3, 0x50_0100)], 0x203, &[]), (&[(0, 0x160F_0801), (2, 0x322B_241D)], 0x203, &[]), 0x40_0104),
 ];
+
+// Each table is named by one function alone, since a proof carries what its function names.
+pub fn move_rows() -> &'static [Row] {
+    &MOVES
+}
+
+pub fn conversion_rows() -> &'static [Row] {
+    &CONVERSIONS
+}
+
+pub fn stack_rows() -> &'static [Row] {
+    &STACK
+}
+
+pub fn jump_rows() -> &'static [Row] {
+    &JUMPS
+}
+
+pub fn flag_rows() -> &'static [Row] {
+    &FLAGS
+}
+
+pub fn sum_rows() -> &'static [Row] {
+    &SUMS
+}
+
+pub fn bit_rows() -> &'static [Row] {
+    &BITS
+}
+
+pub fn string_rows() -> &'static [(u64, Row)] {
+    &STRINGS
+}
+
+pub fn pair_rows() -> &'static [Row] {
+    &PAIRS
+}
