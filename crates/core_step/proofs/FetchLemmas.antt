@@ -1,24 +1,28 @@
 -- The bytes that a fetch could read, and what a step does with all that it may read.
-use Rattle.std.proofs.Common.{◌≡◌, ℕ, zero, suc, ◌+◌, ◌-◌, ◌/◌, ◌%◌, ◌<◌, ◌≤◌, ◌↔◌, inl, inr, List, [], ◌∷◌, ◌++◌, Option, Some, None, refl, sym, ◌∙◌, ap, arith, take, drop, length, add-zero, append-nil, MatchOption}
+use Rattle.std.proofs.Common.{◌≡◌, ℕ, zero, suc, ◌+◌, ◌-◌, ◌/◌, ◌%◌, ◌<◌, ◌≤◌, ◌↔◌, inl, inr, List, [], ◌∷◌, ◌++◌, Option, Some, None, refl, sym, ◌∙◌, ap, arith, take, drop, length, add-zero, append-nil, subst, MatchOption}
 use Rattle.std.proofs.lemmas.Bool.{cases_lt}
-use Rattle.std.proofs.lemmas.List.{length-append, length-take-le, length-drop}
+use Rattle.std.proofs.lemmas.List.{length-append, length-take-le, length-drop, take_all}
 use Rattle.std.proofs.lemmas.Slice.{take-put_mid}
 use borrow.Rule.Slice.PartMut.{put_mid}
 use Rattle.machine_state.specs.declared.kinds.Kind.{Kind}
 use Rattle.machine_state.specs.declared.kinds.Kind.TheVariants.{Execute}
 use Rattle.machine_state.specs.declared.kinds.Miss.{Miss}
 use Rattle.machine_state.specs.declared.kinds.Miss.TheVariants.{Unmapped, Denied, NonCanonical, Away}
-use Rattle.machine_state.specs.Memory.{Memory, Permissions, miss_at, or_else, first_miss, bytes_at, allowed_run}
+use Rattle.machine_state.specs.Memory.{Memory, Permissions, Swap, miss_at, or_else, first_miss, bytes_at, allowed_run}
 use Rattle.machine_state.specs.State.{State}
 use Rattle.machine_state.proofs.MemoryLemmas.{or_else_right, or_else_none, first_miss-append, first_miss-zero, first_miss_at_once, first_miss_never_away, length-bytes_at}
 use Rattle.guest_pages.specs.Table.{Table, blocked, first_away, away_at, perms_in}
+use Rattle.guest_pages.specs.Pages.{table_of, byte_of, memory_of}
 use Rattle.guest_pages.proofs.Walks.{away_at-away, blocked_both, blocked_first, blocked_part, first_away-zero}
 use Rattle.row_table.specs.declared.kinds.Decoded.{Decoded}
 use Rattle.x_decode.specs.declared.kinds.Seen.{Seen}
 use Rattle.x_decode.specs.declared.kinds.Seen.TheVariants.{Instr, Short, TooLong, Bad}
-use Rattle.x_decode.specs.Seeing.{seen, InRange, IsInstr}
+use Rattle.x_decode.specs.Seeing.{seen, InRange, IsInstr, IsSeen}
+use Rattle.core_step.specs.declared.fetching.Fetched.{Fetched}
 use Rattle.core_step.specs.declared.fetching.Fetched.TheVariants.{Need}
+use Rattle.core_step.specs.declared.machine.Machine.{Machine}
 use Rattle.core_step.specs.Act.{act, act_on, trapped, fetch_fault}
+use Rattle.core_step.specs.Machine.{state_of}
 use Rattle.core_step.specs.Fetch.{IsRun, IsFetched, IsFetchFit, NeedsPage, outcome, stopped}
 use Rattle.core_step.proofs.Steps.{IsDenial}
 
@@ -179,7 +183,7 @@ act-stopped s table count bytes miss read below short there stop =
     ∙ ap (λ (m : Option Miss). trapped (fetch_fault m) s) (first_miss_at_once s.memory.perms Execute (s.rip + count) (15 - count) miss (omega arith) next)
 
 -- what comes of the bytes that could be read is what a step does; fifteen bytes are never short
-pub outcome-is : (s : State) (table : Table) (count : ℕ) (stop : Option Miss) (bytes : List ℕ) (what : Seen) → AtRip s table count bytes
+outcome-is : (s : State) (table : Table) (count : ℕ) (stop : Option Miss) (bytes : List ℕ) (what : Seen) → AtRip s table count bytes
     → count ≤ 15 → IsRun table s.rip 15 count stop → what ≡ seen bytes → ((what ≡ Short → ⊥) → (more : List ℕ) → seen (bytes ++ more) ≡ what)
     → (what ≡ Short → length bytes < 15) → IsFetched s (outcome what stop)
 outcome-is s table count stop bytes (Instr d len) read le run is stays few = act-known s table count bytes _ read le (stays (λ e. cc))
@@ -202,7 +206,7 @@ stopped-fits (Some (NonCanonical addr)) = tt
 stopped-fits (Some (Away slot)) = tt
 
 -- an instruction that was fetched is one that was seen
-pub outcome-fits : (bytes : List ℕ) (what : Seen) (stop : Option Miss) → InRange bytes what
+outcome-fits : (bytes : List ℕ) (what : Seen) (stop : Option Miss) → InRange bytes what
     → ((d : Decoded) (n : ℕ) → what ≡ Instr d n → IsInstr bytes d n) → IsFetchFit (outcome what stop)
 outcome-fits bytes (Instr d n) stop within instr = ((instr d n refl).decoded, within.1, within.3)
 outcome-fits bytes Short stop within instr = stopped-fits stop
@@ -254,7 +258,7 @@ run-away table addr count slot None e run = cc
 run-away table addr count slot (Some miss) e run = (run.end.0, run.end.1 ∙ e)
 
 -- a page is needed exactly where the bytes that could be read are short, up to that page
-pub outcome-needs : (table : Table) (byte : ℕ → ℕ) (addr count slot : ℕ) (stop : Option Miss) (bytes : List ℕ) (what : Seen)
+outcome-needs : (table : Table) (byte : ℕ → ℕ) (addr count slot : ℕ) (stop : Option Miss) (bytes : List ℕ) (what : Seen)
     → IsRun table addr 15 count stop → bytes ≡ bytes_at byte addr count → what ≡ seen bytes
     → (outcome what stop ≡ Need slot) ↔ NeedsPage table byte addr slot
 outcome-needs table byte addr count slot stop bytes what run shown is = (
@@ -275,3 +279,40 @@ outcome-needs table byte addr count slot stop bytes what run shown is = (
       let short : what ≡ Short = is ∙ ap seen shown ∙ ap (λ (n : ℕ). seen (bytes_at byte addr n)) end.0 ∙ needs.short in
       ap (λ (v : Seen). outcome v stop) short ∙ ap stopped end.1,
 )
+
+-- ---- a fetch, by the bytes that could be read at the instruction pointer and by what they are seen as
+pub record IsRead (m : Machine) (into : List ℕ) (count : ℕ) (stop : Option Miss) : Type 0 where
+  pub most : length into ≡ 15
+  pub within : count ≤ length into
+  pub run : IsRun (table_of m.pages) m.rip (length into) count stop
+  pub shown : (w : Swap) → take count into ≡ bytes_at (byte_of m.pages w) m.rip count
+
+pub record Fetches (m : Machine) (answer : Fetched) : Type 0 where
+  pub whole : (w : Swap) → IsFetched (state_of m w) answer
+  pub need : (w : Swap) (slot : ℕ) → (answer ≡ Need slot) ↔ NeedsPage (table_of m.pages) (byte_of m.pages w) m.rip slot
+  pub fits : IsFetchFit answer
+
+pub fetches : (m : Machine) (into : List ℕ) (count : ℕ) (stop : Option Miss) (what : Seen) (answer : Fetched) → IsRead m into count stop
+    → IsSeen (take count into) what → answer ≡ outcome what stop → Fetches m answer
+unfolding memory_of
+fetches m into count stop what answer read is e = subst (Fetches m) (sym e) (record { whole = whole; need = need; fits = fits })
+  where
+    run : IsRun (table_of m.pages) m.rip 15 count stop
+    run = rw read.most at read.run
+
+    whole : (w : Swap) → IsFetched (state_of m w) (outcome what stop)
+    whole w =
+        outcome-is (state_of m w) (table_of m.pages) count stop (take count into) what
+        (record { perms = refl; ready = run.ready; shown = read.shown w }) (omega (arith, read.most, read.within)) run
+        is.value is.stays (λ e. (is.short.0 e).few)
+
+    need : (w : Swap) (slot : ℕ) → (outcome what stop ≡ Need slot) ↔ NeedsPage (table_of m.pages) (byte_of m.pages w) m.rip slot
+    need w slot =
+        outcome-needs (table_of m.pages) (byte_of m.pages w) m.rip count slot stop (take count into) what run (read.shown w) is.value
+
+    fits : IsFetchFit (outcome what stop)
+    fits = outcome-fits (take count into) what stop is.within (λ d n e. (is.instr d n).0 e)
+
+-- where as many bytes could be read as were asked for, those are all
+pub all-seen : (into : List ℕ) (count : ℕ) (what : Seen) → length into ≡ 15 → count ≡ 15 → IsSeen into what → IsSeen (take count into) what
+all-seen into count what most all is = subst (λ (bytes : List ℕ). IsSeen bytes what) (sym (take_all count into (omega arith))) is

@@ -28,3 +28,4 @@ pub use guest_pages::Pages;
 pub use machine::Machine;
 pub use machine_state::{Kind, Perms};
 pub use row_table::Decoded;
+pub use x_decode::Decoder;

@@ -30,7 +30,7 @@ use gpr_flags::{Fault, Flags, Gprs};
 use guest_pages::Pages;
 use machine_state::Kind;
 use row_table::{Decoded, row};
-use x_decode::decode;
+use x_decode::{Decoder, decode};
 
 /// The processor with its memory: general registers, flags, instruction pointer, pages, and the number of completed
 /// steps.
@@ -55,6 +55,22 @@ impl Machine {
         let mut bytes = [0; 15];
         let run = read_run(&self.pages, self.rip, &mut bytes);
         fetched(decode(&bytes[..run.count]), run.stop)
+    }
+
+    /// The same by a decoder that keeps what it decodes.
+    pub fn fetch_by(&self, decoder: &mut Decoder) -> Fetched
+        ensures whole { (w : Swap) → IsFetched (state_of self.now w) result }
+        ensures need { (w : Swap) (slot : ℕ) → (result ≡ Fetched.Need slot)
+            ↔ NeedsPage (table_of self.now.pages) (byte_of self.now.pages w) self.now.rip slot }
+        ensures fits { IsFetchFit result }
+    {
+        let mut bytes = [0; 15];
+        let run = read_run(&self.pages, self.rip, &mut bytes);
+        if run.count == bytes.len() {
+            fetched(decoder.decode(self.rip, &bytes), run.stop)
+        } else {
+            fetched(decode(&bytes[..run.count]), run.stop)
+        }
     }
 
     /// Performs an instruction of `len` bytes at `rip`: one step, but for the answer of a system call and for the signal

@@ -139,6 +139,7 @@ fn immediate(fields: &Fields) -> u64
 }
 
 /// What stands at a place of a row's operands.
+#[inline(always)]
 #[tactic(auto, unfolding(crate::specs::Operands::operand_at))]
 pub(crate) fn operand(
     spot: Spot,

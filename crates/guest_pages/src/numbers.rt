@@ -1,5 +1,5 @@
 //! Numbers in memory, the lowest byte first.
-ghost use Rattle.std.specs.Prelude.{◌≡◌, ◌*◌, ◌^◌, ◌<◌, ◌≤◌, None, IsTrue, length};
+ghost use Rattle.std.specs.Prelude.{◌≡◌, ◌+◌, ◌*◌, ◌%◌, ◌^◌, ◌<◌, ◌≤◌, None, IsTrue, length};
 ghost use Rattle.byteorder.specs.Endian.{little_number};
 ghost use Rattle.gpr_flags.specs.Registers.{is_size};
 ghost use Rattle.machine_state.specs.Memory.{Swap, number_at, number_bytes};
@@ -28,8 +28,22 @@ fn number(bytes: &[u8], size: u8) -> u64
 }
 
 impl Pages {
-    /// The number in `size` bytes from `addr` on, which can be accessed so now.
-    pub fn load(&self, addr: u64, size: u8, kind: Kind) -> u64
+    // The number in bytes of one page.
+    fn load_within(&self, addr: u64, size: u8, kind: Kind) -> u64
+        requires size { IsTrue (is_size size) }
+        requires one_page { addr % 4096 + size ≤ 4096 }
+        requires ready { blocked (table_of self.now) kind addr size ≡ None }
+        ensures value { (w : Swap) → result ≡ number_at (byte_of self.now w) addr size }
+        ensures fits { result < 2 ^ (8 * size) }
+    {
+        match self.view(addr, size as usize, kind) {
+            Ok(bytes) => number(bytes, size),
+            Err(_) => unreachable!(),
+        }
+    }
+
+    // The number in bytes of two pages.
+    fn load_across(&self, addr: u64, size: u8, kind: Kind) -> u64
         requires size { IsTrue (is_size size) }
         requires ready { blocked (table_of self.now) kind addr size ≡ None }
         ensures value { (w : Swap) → result ≡ number_at (byte_of self.now w) addr size }
@@ -38,6 +52,41 @@ impl Pages {
         let mut bytes = [0; 8];
         match self.read(addr, &mut bytes[..size as usize], kind) {
             Ok(()) => number(&bytes, size),
+            Err(_) => unreachable!(),
+        }
+    }
+
+    /// The number in `size` bytes from `addr` on, which can be accessed so now.
+    pub fn load(&self, addr: u64, size: u8, kind: Kind) -> u64
+        requires size { IsTrue (is_size size) }
+        requires ready { blocked (table_of self.now) kind addr size ≡ None }
+        ensures value { (w : Swap) → result ≡ number_at (byte_of self.now w) addr size }
+        ensures fits { result < 2 ^ (8 * size) }
+    {
+        if addr % 4096 + u64::from(size) <= 4096 {
+            self.load_within(addr, size, kind)
+        } else {
+            self.load_across(addr, size, kind)
+        }
+    }
+
+    // Writes bytes of one page.
+    fn store_within(&mut self, addr: u64, bytes: &[u8])
+        requires some { 0 < length bytes.now }
+        requires one_page { addr % 4096 + length bytes.now ≤ 4096 }
+        requires ready { blocked (table_of self.old) Kind.Write addr (length bytes.now) ≡ None }
+        ensures { IsWritten self.old self.new addr bytes.now }
+    {
+        self.lend_ready(addr, bytes.len()).copy_from_slice(bytes);
+    }
+
+    // Writes bytes of two pages.
+    fn store_across(&mut self, addr: u64, bytes: &[u8])
+        requires ready { blocked (table_of self.old) Kind.Write addr (length bytes.now) ≡ None }
+        ensures { IsWritten self.old self.new addr bytes.now }
+    {
+        match self.write(addr, bytes) {
+            Ok(()) => {}
             Err(_) => unreachable!(),
         }
     }
@@ -55,9 +104,10 @@ impl Pages {
             low(8 * u32::from(size), u128::from(number)),
             len,
         );
-        match self.write(addr, &bytes[..len]) {
-            Ok(()) => {}
-            Err(_) => unreachable!(),
+        if addr % 4096 + u64::from(size) <= 4096 {
+            self.store_within(addr, &bytes[..len]);
+        } else {
+            self.store_across(addr, &bytes[..len]);
         }
     }
 }

@@ -1,5 +1,5 @@
 -- What a decoder sees in some bytes: an instruction, the first bytes of one, or neither.
-use Rattle.std.specs.Prelude.{ℕ, ◌<◌, ◌≤◌, nat_lt, List, length, Option, Some, None, ⊤, if◌then◌else◌}
+use Rattle.std.specs.Prelude.{ℕ, ◌≡◌, ◌↔◌, ◌<◌, ◌≤◌, nat_lt, List, ◌++◌, length, Option, Some, None, ⊤, if◌then◌else◌}
 use Rattle.row_table.specs.declared.kinds.Class.{Class}
 use Rattle.row_table.specs.declared.kinds.Class.TheVariants.{Legacy, Vex, Evex}
 use Rattle.row_table.specs.declared.kinds.Fields.{Fields}
@@ -65,3 +65,13 @@ seen_of count Dead = Bad
 -- what the bytes begin with, of which the first fifteen count (Intel SDM volume 2, section 2.3.11)
 unfoldable pub seen : List ℕ → Seen
 seen bytes = seen_of (length bytes) (scanned bytes)
+
+-- all that is said of an answer
+pub record IsSeen (bytes : List ℕ) (what : Seen) : Type 0 where
+  pub instr : (d : Decoded) (n : ℕ) → (what ≡ Instr d n) ↔ IsInstr bytes d n
+  pub short : (what ≡ Short) ↔ IsShort bytes
+  pub too_long : (what ≡ TooLong) ↔ IsTooLong bytes
+  pub bad : (what ≡ Bad) ↔ IsBad bytes
+  pub within : InRange bytes what
+  pub value : what ≡ seen bytes
+  pub stays : (what ≡ Short → ⊥) → (more : List ℕ) → seen (bytes ++ more) ≡ what

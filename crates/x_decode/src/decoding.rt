@@ -1,9 +1,9 @@
 //! Which instruction some bytes begin with.
-ghost use Rattle.std.specs.Prelude.{◌≡◌, ◌↔◌, ◌<◌, ◌++◌, ℕ, List, length, IfSome};
+ghost use Rattle.std.specs.Prelude.{◌≡◌, ◌↔◌, ◌<◌, length, IfSome};
 ghost use Rattle.row_table.specs.declared.kinds.Decoded.{Decoded as AnyDecoded};
 ghost use Rattle.row_table.specs.Rows.{rows};
 ghost use Rattle.legacy_decode.specs.Spelling.{IsDecoded};
-ghost use Rattle.x_decode.specs.Seeing.{IsInstr, IsShort, IsTooLong, IsBad, InRange, spelled_in, seen};
+ghost use Rattle.x_decode.specs.Seeing.{IsSeen, spelled_in};
 
 use crate::kinds::Seen;
 use form_scan::{Scan, scan};
@@ -11,7 +11,7 @@ use legacy_decode::match_legacy;
 use row_table::{Class, Decoded, Fields};
 
 /// An instruction's bytes at most (Intel SDM volume 2, section 2.3.11).
-const LIMIT: usize = 15;
+pub(crate) const LIMIT: usize = 15;
 
 /// The instruction with these fields, by the rules of their class.
 fn matched(fields: &Fields) -> Option<Decoded>
@@ -28,18 +28,7 @@ fn matched(fields: &Fields) -> Option<Decoded>
 
 /// What the first fifteen of the bytes begin with.
 pub fn decode(bytes: &[u8]) -> Seen
-    ensures instr { (d : AnyDecoded) (n : ℕ) → (result ≡ Seen.Instr d n) ↔ IsInstr bytes.now d n }
-    ensures short { (result ≡ Seen.Short) ↔ IsShort bytes.now }
-    ensures too_long { (result ≡ Seen.TooLong) ↔ IsTooLong bytes.now }
-    ensures bad { (result ≡ Seen.Bad) ↔ IsBad bytes.now }
-
-    // The row is in the table, and the length is at least one, no greater than that of the bytes, and at
-    // most fifteen.
-    ensures within { InRange bytes.now result }
-    ensures value { result ≡ seen bytes.now }
-
-    // More bytes change nothing, unless all of them are the first of an instruction and fewer than fifteen.
-    ensures stays { (result ≡ Seen.Short → ⊥) → (more : List ℕ) → seen (bytes.now ++ more) ≡ result }
+    ensures { IsSeen bytes.now result }
 {
     match scan(bytes) {
         Scan::Whole(fields, len) => match matched(&fields) {

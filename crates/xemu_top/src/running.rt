@@ -7,7 +7,7 @@ ghost use Rattle.xemu_top.specs.Step.{step, after_part, signal_of as signal_of_f
 ghost use Rattle.xemu_top.specs.Following.{FollowsAt, RunsAt, IsCaused, SignalFits, stopped_by};
 
 use crate::calls::answer_call;
-use core_step::{Acted, Decoded, Fetched, Machine};
+use core_step::{Acted, Decoded, Decoder, Fetched, Machine};
 use gpr_flags::Fault;
 use host_edge::Sink;
 use machine_state::RunEnd;
@@ -69,7 +69,12 @@ fn perform<O: Sink, E: Sink>(
 }
 
 /// One whole step: an instruction is fetched and performed, or the guest ends by the fault of its fetch.
-fn turn<O: Sink, E: Sink>(machine: &mut Machine, out: &mut O, err: &mut E) -> Option<RunEnd>
+fn turn<O: Sink, E: Sink>(
+    machine: &mut Machine,
+    decoder: &mut Decoder,
+    out: &mut O,
+    err: &mut E,
+) -> Option<RunEnd>
     requires room { machine.old.steps < 2 ^ 64 - 1 }
     requires resident { AllResident machine.old.pages }
     ensures follows { FollowsAt step machine.old machine.new
@@ -81,7 +86,7 @@ fn turn<O: Sink, E: Sink>(machine: &mut Machine, out: &mut O, err: &mut E) -> Op
     ensures cause { IsCaused (stopped_by result) (O.faults out.old) (O.faults out.new) (E.faults err.old) (E.faults err.new) }
     ensures signal { SignalFits result }
 {
-    match machine.fetch() {
+    match machine.fetch_by(decoder) {
         Fetched::Instr(d, len) => perform(machine, &d, len, out, err),
         Fetched::Trap(fault) => Some(kill(machine, fault)),
         Fetched::Need(_) => unreachable!(),
@@ -91,6 +96,7 @@ fn turn<O: Sink, E: Sink>(machine: &mut Machine, out: &mut O, err: &mut E) -> Op
 /// Runs until the guest ends or `upto` steps are completed.
 pub(crate) fn run<O: Sink, E: Sink>(
     machine: &mut Machine,
+    decoder: &mut Decoder,
     upto: u64,
     out: &mut O,
     err: &mut E,
@@ -105,7 +111,7 @@ pub(crate) fn run<O: Sink, E: Sink>(
     ensures signal { SignalFits (Some result) }
 {
     while machine.steps < upto {
-        match turn(machine, out, err) {
+        match turn(machine, decoder, out, err) {
             None => {}
             Some(end) => return end,
         }
