@@ -1,7 +1,7 @@
 -- What a mask picks, one place further.
 use Rattle.std.proofs.Common.{◌≡◌, ℕ, ◌+◌, ◌*◌, ◌^◌, ap, true, false, cond, add-one}
 use Rattle.std.specs.Int.{bit_at}
-use Rattle.bit_units.specs.Numbers.{has_bit}
+use Rattle.gpr_flags.specs.Numbers.{has_bit}
 use Rattle.bit_units.specs.Picks.{picked, extracted, deposited}
 
 pub picked_in : (place mask : ℕ) → has_bit mask place ≡ true → picked (place + 1) mask ≡ picked place mask + 1

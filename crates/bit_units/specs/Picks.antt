@@ -1,7 +1,7 @@
 -- The bits that a mask picks.
 use Rattle.std.specs.Prelude.{ℕ, ◌+◌, ◌*◌, ◌^◌, zero, suc, if◌then◌else◌}
 use Rattle.std.specs.Int.{bit_at}
-use Rattle.bit_units.specs.Numbers.{has_bit}
+use Rattle.gpr_flags.specs.Numbers.{has_bit}
 
 -- how many 1 bits the mask has below a place
 unfoldable pub picked : (places mask : ℕ) → ℕ

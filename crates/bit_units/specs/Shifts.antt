@@ -3,12 +3,13 @@
 -- this program's own choice there.
 use Rattle.std.specs.Prelude.{ℕ, ◌+◌, ◌-◌, ◌*◌, ◌/◌, ◌%◌, ◌^◌, ◌==◌, Bool, false, nat_lt, if◌then◌else◌}
 use Rattle.gpr_flags.specs.declared.kinds.Flags.{Flags}
+use Rattle.gpr_flags.specs.Numbers.{has_bit, is_negative}
 use Rattle.gpr_flags.specs.Flags.{value_flags}
 use Rattle.row_table.specs.declared.operations.Op.{Op}
 use Rattle.row_table.specs.declared.operations.Op.TheVariants.{Bit}
 use Rattle.row_table.specs.declared.operations.BitOp.{BitOp}
 use Rattle.row_table.specs.declared.operations.BitOp.TheVariants.{Rol, Ror, Rcl, Rcr, Shl, Shr, Sar, Shld, Shrd}
-use Rattle.bit_units.specs.Numbers.{has_bit, is_negative, differ, masked}
+use Rattle.bit_units.specs.Numbers.{differ, masked}
 
 -- ---- shifts (SDM volume 2, SAL/SAR/SHL/SHR)
 abbrev pub shl_value : (width a count : ℕ) → ℕ

@@ -3,7 +3,7 @@ ghost use Rattle.std.specs.Prelude.{◌≡◌, ◌*◌, ◌^◌, ◌<◌, ◌≤
 ghost use Rattle.std.specs.Int.{bit_at};
 ghost use Rattle.bit_units.specs.Picks.{extracted as extracted_from, deposited as deposited_from};
 
-use crate::numbers::has_bit;
+use gpr_flags::has_bit;
 
 /// A bit at a place.
 fn bit_of(number: u64, from: u32, to: u32) -> u64

@@ -1,11 +1,10 @@
 //! Rotates: the value, and the flags by that value.
 ghost use Rattle.std.specs.Prelude.{◌≡◌, ◌+◌, ◌%◌, ◌^◌, ◌<◌, ◌≤◌};
-ghost use Rattle.bit_units.specs.Numbers.{has_bit as has_bit_of, is_negative as is_negative_of};
+ghost use Rattle.gpr_flags.specs.Numbers.{has_bit as has_bit_of, is_negative as is_negative_of};
 ghost use Rattle.bit_units.specs.Shifts.{rotated as rotated_by, rol_value as value_of_rol, ror_value as value_of_ror, with_carry as with_carry_above, rcl_wide as wide_of_rcl, rcr_wide as wide_of_rcr, left_flags as flags_of_left, right_flags as flags_of_right};
 
-use crate::numbers::{has_bit, is_negative};
 use crate::shifting::overflow_at_one;
-use gpr_flags::{Flags, low, power};
+use gpr_flags::{Flags, has_bit, is_negative, low, power};
 
 /// The low bits, as many as `to_top`, go to the top, and the others down to bit 0.
 fn rotated(width: u32, number: u128, to_top: u32) -> u128

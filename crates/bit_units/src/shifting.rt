@@ -1,14 +1,15 @@
 //! Shifts and rotates: the value, and the flags by that value.
 ghost use Rattle.std.specs.Prelude.{◌≡◌, ◌-◌, ◌*◌, ◌^◌, ◌<◌, ◌≤◌, if◌then◌else◌, nat_lt};
-ghost use Rattle.bit_units.specs.Numbers.{is_negative as is_negative_of, has_bit as has_bit_of, differ};
+ghost use Rattle.gpr_flags.specs.Numbers.{has_bit as has_bit_of, is_negative as is_negative_of};
+ghost use Rattle.bit_units.specs.Numbers.{differ};
 ghost use Rattle.bit_units.specs.Shifts.{shl_value as value_of_shl, shr_value as value_of_shr, sar_value as value_of_sar, shld_value as value_of_shld, shrd_value as value_of_shrd, shl_flags as flags_of_shl, shr_flags as flags_of_shr, sar_flags as flags_of_sar, shld_flags as flags_of_shld, shrd_flags as flags_of_shrd, overflow_at_one as overflow_of_one, shifted_value as value_shifted, shifted_flags as flags_shifted, value_of_shift, flags_of_shift, shift_value, shift_flags};
 ghost use Rattle.row_table.specs.declared.operations.Op.TheVariants.{Bit};
 
-use crate::numbers::{has_bit, is_negative, masked, ones};
+use crate::numbers::{masked, ones};
 use crate::rotating::{
     rcl_flags, rcl_value, rcr_flags, rcr_value, rol_flags, rol_value, ror_flags, ror_value,
 };
-use gpr_flags::{Flags, low, power};
+use gpr_flags::{Flags, has_bit, is_negative, low, power};
 use row_table::{BitOp, Op};
 
 /// SHL.

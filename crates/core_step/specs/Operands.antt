@@ -1,6 +1,7 @@
 -- An instruction with its operands found: which row it is, where its destination and its source are, and their sizes.
 use Rattle.std.specs.Prelude.{true, false, ℕ, ℤ, ◌+◌, ◌-◌, ◌*◌, ◌/◌, ◌%◌, ◌^◌, ◌==◌, ◌&&◌, Bool, not, nat_le, nat_lt, if◌then◌else◌, List, slice_index}
 use Rattle.gpr_flags.specs.declared.registers.TheConstants.{RAX, RCX, RDX, RSP, RBP, R11}
+use Rattle.gpr_flags.specs.Numbers.{is_negative}
 use Rattle.row_table.specs.declared.kinds.Operands.{Operands}
 use Rattle.row_table.specs.declared.kinds.Operands.TheVariants.{OpcodeReg, RaxOpcodeReg, OpcodeRegIb, OpcodeRegIv, Ib, Iw, Iz, Jb, Jz, AlIb, RaxIz, AlOb, RaxOv, ObAl, OvRax, Eb, Ev, EbGb, EvGv, GbEb, GvEv, GvEb, GvEw, GvEd, EbIb, EvIb, EvIz, EbOne, EvOne, EbCl, EvCl, GvEvIb, GvEvIz, EvGvIb, EvGvCl, GvM, MvGv, M}
 use Rattle.row_table.specs.declared.kinds.Row.{Row}
@@ -25,7 +26,7 @@ use Rattle.core_step.specs.declared.kinds.Use.{Use}
 use Rattle.core_step.specs.declared.kinds.Use.TheVariants.{Read, Write, Update}
 use Rattle.core_step.specs.declared.kinds.Bases.{Bases}
 use Rattle.core_step.specs.declared.kinds.Instruction.{Instruction}
-use Rattle.core_step.specs.Size.{bytes_in, bits_in, half_of, cut, is_negative, sign_extended}
+use Rattle.core_step.specs.Size.{bytes_in, bits_in, half_of, cut, sign_extended}
 use Rattle.core_step.specs.Address.{is_memory, reg_number, rm_number, opcode_number, address_of, offset_of, wrapped, in_segment}
 
 -- ---- where a row's operands stand (SDM volume 2, appendix A.2)
@@ -271,7 +272,7 @@ upper_half Quad = Register RDX
 -- their bits and rounded down (SDM volume 2, BT; 3.1.1.9)
 abbrev pub operands_away : Size → ℕ → ℕ
 operands_away size number =
-    if is_negative Quad number
+    if is_negative 64 number
     then (bytes_in size * (number / bits_in size) + (2 ^ 64 - 2 ^ 61)) % 2 ^ 64
     else bytes_in size * (number / bits_in size)
 

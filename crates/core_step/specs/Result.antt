@@ -3,6 +3,7 @@ use Rattle.std.specs.Prelude.{ℕ, ◌+◌, ◌-◌, ◌/◌, ◌%◌, ◌^◌, 
 use Rattle.gpr_flags.specs.declared.kinds.Fault.{Fault}
 use Rattle.gpr_flags.specs.declared.kinds.Fault.TheVariants.{Divide, Breakpoint, Undefined, General}
 use Rattle.gpr_flags.specs.declared.kinds.Flags.{Flags}
+use Rattle.gpr_flags.specs.Numbers.{is_negative}
 use Rattle.gpr_flags.specs.Flags.{flags_word, flags_of, holds}
 use Rattle.row_table.specs.declared.operations.Op.{Op}
 use Rattle.row_table.specs.declared.operations.Op.TheVariants.{Core, Gpr, Bit}
@@ -22,7 +23,7 @@ use Rattle.core_step.specs.declared.acted.Acted.TheVariants.{Done, Call as Calls
 use Rattle.core_step.specs.declared.kinds.Size.{Size}
 use Rattle.core_step.specs.declared.kinds.Instruction.{Instruction}
 use Rattle.core_step.specs.declared.kinds.Outcome.{Outcome}
-use Rattle.core_step.specs.Size.{bytes_in, bits_in, cut, is_negative, sign_extended}
+use Rattle.core_step.specs.Size.{bytes_in, bits_in, cut, sign_extended}
 use Rattle.core_step.specs.Operands.{raised}
 
 -- ---- flags
@@ -37,7 +38,7 @@ reversed size number = bits_value (Core Bswap) (bits_in size) number 0
 
 -- all bits are the sign's (SDM volume 2, CWD)
 abbrev pub sign_bits : Size → ℕ → ℕ
-sign_bits size number = if is_negative size number then 2 ^ 64 - 1 else 0
+sign_bits size number = if is_negative (bits_in size) number then 2 ^ 64 - 1 else 0
 
 -- one less
 abbrev pub counted_down : Size → ℕ → ℕ

@@ -1,5 +1,6 @@
 -- Numbers of an operand's size, and the parts of general registers.
-use Rattle.std.specs.Prelude.{ℕ, ◌+◌, ◌-◌, ◌*◌, ◌/◌, ◌%◌, ◌^◌, Bool, nat_le, if◌then◌else◌}
+use Rattle.std.specs.Prelude.{ℕ, ◌+◌, ◌-◌, ◌*◌, ◌/◌, ◌%◌, ◌^◌, if◌then◌else◌}
+use Rattle.gpr_flags.specs.Numbers.{is_negative}
 use Rattle.core_step.specs.declared.kinds.Size.{Size}
 use Rattle.core_step.specs.declared.kinds.Size.TheVariants.{Byte, Word, Double, Quad}
 
@@ -16,13 +17,9 @@ bits_in size = 8 * bytes_in size
 abbrev pub cut : Size → ℕ → ℕ
 cut size number = number % 2 ^ bits_in size
 
--- whether the highest bit of a number of that size is 1
-abbrev pub is_negative : Size → ℕ → Bool
-is_negative size number = nat_le (2 ^ (bits_in size - 1)) number
-
 -- a number of that size at 64 bits, with its sign (SDM volume 1, 7.3.1.5)
 abbrev pub sign_extended : Size → ℕ → ℕ
-sign_extended size number = if is_negative size number then 2 ^ 64 - 2 ^ bits_in size + number else number
+sign_extended size number = if is_negative (bits_in size) number then 2 ^ 64 - 2 ^ bits_in size + number else number
 
 -- the size that has half as many bits; a byte has none
 abbrev pub half_of : Size → Size

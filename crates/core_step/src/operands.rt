@@ -6,7 +6,7 @@ ghost use Rattle.core_step.specs.Fits.{OperandFits};
 
 use crate::addressing::{address, in_segment, is_memory, offset, opcode_reg, reg, rm, wrap};
 use crate::kinds::{Bases, Operand, Size, Spot, Use};
-use gpr_flags::{Gprs, RAX, RBP, RCX, RDX, RSP};
+use gpr_flags::{Gprs, RAX, RBP, RCX, RDX, RSP, is_negative};
 use row_table::{BitOp, CoreOp, Fields, GprOp, Op, Operands, Row};
 
 /// Where the first operand of a row stands, which is the destination.
@@ -355,7 +355,7 @@ fn operands_away(size: Size, number: u64) -> u64
         Size::Double => number / 32 * 4,
         Size::Quad => number / 64 * 8,
     };
-    if number >= 0x8000_0000_0000_0000 {
+    if is_negative(64, number) {
         bytes.wrapping_add(0xE000_0000_0000_0000)
     } else {
         bytes

@@ -11,7 +11,7 @@ use crate::acted::Acted;
 use crate::flags::with_low;
 use crate::kinds::{Instruction, Outcome, Size};
 use bit_units::{bits, shift};
-use gpr_flags::{Fault, Flags};
+use gpr_flags::{Fault, Flags, is_negative};
 use gpr_units::{alu, divide, multiply};
 use row_table::{BitOp, CoreOp, GprOp, Op};
 
@@ -31,7 +31,7 @@ fn reversed(size: Size, number: u64) -> u64
 fn sign_bits(size: Size, number: u64) -> u64
     ensures { result ≡ sign_bits_of size number }
 {
-    if size.is_negative(number) {
+    if is_negative(size.bits(), number) {
         u64::MAX
     } else {
         0

@@ -1,9 +1,9 @@
 //! Numbers of an operand's size, and the parts of general registers.
 ghost use Rattle.std.specs.Prelude.{◌≡◌, ◌≤◌, ◌<◌, ◌^◌};
-ghost use Rattle.core_step.specs.Size.{bytes_in, bits_in, cut as cut_to, is_negative as is_negative_at, sign_extended, half_of, with_high_byte as with_high};
+ghost use Rattle.core_step.specs.Size.{bytes_in, bits_in, cut as cut_to, sign_extended, half_of, with_high_byte as with_high};
 
 use crate::kinds::Size;
-use gpr_flags::low;
+use gpr_flags::{is_negative, low};
 
 impl Size {
     /// How many bytes it has.
@@ -36,13 +36,6 @@ impl Size {
         low(self.bits(), u128::from(number))
     }
 
-    /// Whether the highest bit of a number of this size is 1.
-    pub(crate) fn is_negative(self, number: u64) -> bool
-        ensures { result ≡ is_negative_at self number }
-    {
-        number >= 1 << (self.bits() - 1)
-    }
-
     /// A number of this size at 64 bits, with its sign.
     pub(crate) fn sign_extend(self, number: u64) -> u64
         requires { number < 2 ^ bits_in self }
@@ -54,7 +47,7 @@ impl Size {
             Size::Double => 0xFFFF_FFFF_0000_0000,
             Size::Quad => 0,
         };
-        if self.is_negative(number) {
+        if is_negative(self.bits(), number) {
             above + number
         } else {
             number

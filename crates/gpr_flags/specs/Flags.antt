@@ -1,8 +1,8 @@
 -- The flags, the conditions on them, and RFLAGS as a number.
-use Rattle.std.specs.Prelude.{ℕ, ◌+◌, ◌-◌, ◌/◌, ◌%◌, ◌==◌, Bool, false, not, ◌||◌, if◌then◌else◌, count_ones}
+use Rattle.std.specs.Prelude.{ℕ, ◌+◌, ◌/◌, ◌%◌, ◌==◌, Bool, false, not, ◌||◌, if◌then◌else◌, count_ones}
 use Rattle.std.specs.Bool.{beq}
-use Rattle.std.specs.Int.{bit_at}
 use Rattle.gpr_flags.specs.declared.kinds.Flags.{Flags}
+use Rattle.gpr_flags.specs.Numbers.{has_bit, is_negative}
 
 abbrev pub no_flags : Flags
 no_flags = record { cf = false; pf = false; af = false; zf = false; sf = false; df = false; ovf = false }
@@ -16,25 +16,22 @@ flags_word f =
     514 + flag_bit f.cf 1 + flag_bit f.pf 4 + flag_bit f.af 16 + flag_bit f.zf 64 + flag_bit f.sf 128 + flag_bit f.df 1024
     + flag_bit f.ovf 2048
 
--- a bit of a flags word
-abbrev pub has_bit : ℕ → ℕ → Bool
-has_bit word weight = word / weight % 2 == 1
-
--- the flags of a word; its other bits don't count (POPF; which flags a program changes is this program's own)
+-- the flags of a word, by their places (SDM volume 1, 3.4.3); its other bits don't count (POPF; which flags a program changes is
+-- this program's own)
 unfoldable pub flags_of : ℕ → Flags
 flags_of word = record {
-  cf = has_bit word 1;
-  pf = has_bit word 4;
-  af = has_bit word 16;
-  zf = has_bit word 64;
-  sf = has_bit word 128;
-  df = has_bit word 1024;
-  ovf = has_bit word 2048;
+  cf = has_bit word 0;
+  pf = has_bit word 2;
+  af = has_bit word 4;
+  zf = has_bit word 6;
+  sf = has_bit word 7;
+  df = has_bit word 10;
+  ovf = has_bit word 11;
 }
 
 -- SF is the highest bit of a value of n bits, and ZF says that it is 0 (SDM volume 1, 3.4.3.1)
 abbrev pub sign_and_zero : (n value : ℕ) → Flags → Flags
-sign_and_zero n value f = record f { zf = value == 0; sf = bit_at value (n - 1) == 1 }
+sign_and_zero n value f = record f { zf = value == 0; sf = is_negative n value }
 
 -- and PF says that the number of 1 bits in the lowest byte is even (SDM volume 1, 3.4.3.1)
 abbrev pub value_flags : (n value : ℕ) → Flags → Flags

@@ -1,8 +1,9 @@
 //! The flags as conditions and as a number.
 ghost use Rattle.std.specs.Prelude.{◌≡◌, ◌<◌, ◌≤◌};
-ghost use Rattle.gpr_flags.specs.Flags.{no_flags, flag_bit as flag_bit_of, flags_word, has_bit as has_bit_of, flags_of, sign_and_zero, value_flags, even_condition, holds as condition_holds};
+ghost use Rattle.gpr_flags.specs.Flags.{no_flags, flag_bit as flag_bit_of, flags_word, flags_of, sign_and_zero, value_flags, even_condition, holds as condition_holds};
 
 use crate::kinds::Flags;
+use crate::numbers::{has_bit, is_negative};
 
 fn even_condition_holds(f: &Flags, number: u8) -> bool
     requires { number < 8 }
@@ -25,13 +26,6 @@ fn flag_bit(set: bool, weight: u64) -> u64
     ensures most { result ≤ weight }
 {
     if set { weight } else { 0 }
-}
-
-fn has_bit(word: u64, weight: u64) -> bool
-    requires { 0 < weight }
-    ensures { result ≡ has_bit_of word weight }
-{
-    word / weight % 2 == 1
 }
 
 impl Flags {
@@ -78,13 +72,13 @@ impl Flags {
         ensures { result ≡ flags_of word }
     {
         Flags {
-            cf: has_bit(word, 1),
-            pf: has_bit(word, 4),
-            af: has_bit(word, 16),
-            zf: has_bit(word, 64),
-            sf: has_bit(word, 128),
-            df: has_bit(word, 1024),
-            ovf: has_bit(word, 2048),
+            cf: has_bit(word, 0),
+            pf: has_bit(word, 2),
+            af: has_bit(word, 4),
+            zf: has_bit(word, 6),
+            sf: has_bit(word, 7),
+            df: has_bit(word, 10),
+            ovf: has_bit(word, 11),
         }
     }
 
@@ -96,7 +90,7 @@ impl Flags {
     {
         Flags {
             zf: value == 0,
-            sf: (value >> (bits - 1)) % 2 == 1,
+            sf: is_negative(bits, value),
             ..self
         }
     }

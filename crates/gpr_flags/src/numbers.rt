@@ -1,5 +1,6 @@
-//! Numbers of so many bits.
+//! Numbers of so many bits, their bits and their sign.
 ghost use Rattle.std.specs.Prelude.{◌≡◌, ◌%◌, ◌^◌, ◌<◌, ◌≤◌};
+ghost use Rattle.gpr_flags.specs.Numbers.{has_bit as has_bit_of, is_negative as is_negative_of};
 
 /// 2 to the power of `exponent`.
 pub fn power(exponent: u32) -> u128
@@ -17,4 +18,21 @@ pub fn low(bits: u32, number: u128) -> u64
     ensures small { result < 2 ^ bits }
 {
     (number & (power(bits) - 1)) as u64
+}
+
+/// Whether a bit of a number is 1; the lowest has the place 0 (SDM volume 1, 1.3.1).
+pub fn has_bit(number: u64, place: u32) -> bool
+    requires { place < 64 }
+    ensures { result ≡ has_bit_of number place }
+{
+    (number >> place) % 2 == 1
+}
+
+/// Whether the highest bit of a number of that width is 1, its sign (SDM volume 1, 4.2.1.2).
+pub fn is_negative(width: u32, number: u64) -> bool
+    requires some { 0 < width }
+    requires most { width ≤ 64 }
+    ensures { result ≡ is_negative_of width number }
+{
+    has_bit(number, width - 1)
 }

@@ -76,3 +76,12 @@ fn flags_of_a_value_are_of_its_bits(rt: HostRuntime) {
     assert_eq!(rt; Flags::none().with_sign_and_zero(8, 0).word(), 0x242);
     assert_eq!(rt; low(5, 0xFF), 0x1F);
 }
+
+#[test]
+fn sign_is_the_highest_bit(rt: HostRuntime) {
+    assert!(rt; has_bit(0x400, 10));
+    assert!(rt; !has_bit(0x400, 9));
+    assert!(rt; is_negative(8, 0x80));
+    assert!(rt; !is_negative(16, 0x80));
+    assert!(rt; is_negative(64, u64::MAX));
+}

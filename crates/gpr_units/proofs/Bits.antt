@@ -1,7 +1,7 @@
 -- Powers of two, halves of numbers, and bits of signed numbers.
-use Rattle.std.proofs.Common.{◌≡◌, ℕ, ℤ, pos, negsuc, zero, suc, ◌+◌, ◌-◌, ◌*◌, ◌/◌, ◌%◌, ◌^◌, ◌<◌, ◌≤◌, refl, ap, sym, ◌∙◌, arith, of_z, FitsSigned}
+use Rattle.std.proofs.Common.{◌≡◌, ℕ, ℤ, pos, negsuc, suc, ◌+◌, ◌-◌, ◌*◌, ◌/◌, ◌%◌, ◌^◌, ◌<◌, ◌≤◌, refl, ap, sym, ◌∙◌, arith, of_z, FitsSigned}
 use Rattle.std.specs.Int.{w128}
-use Rattle.std.proofs.Math.Nat.{one-le-pow, add-mul-mod_self_left, div-add-mod, mul-le-mul_left, mul-sub, mul-suc, mul_comm, pow-suc, pow-le-pow_right, mod-eq_of_lt}
+use Rattle.std.proofs.Math.Nat.{one-le-pow, add-mul-mod_self_left, div-add-mod, mul-le-mul_left, mul-sub, mul-suc, mul_comm, pow-le-pow_right, mod-eq_of_lt}
 use Rattle.std.proofs.Math.Pow.{mod-mod-pow}
 use Rattle.std.proofs.lemmas.Nat.{pow-add, div_below, mod_below, mod-pow-add, div-mul-add, pow_below}
 use Rattle.gpr_units.specs.Numbers.{low_of}
@@ -11,10 +11,6 @@ power-some n = let p : 0 < 2 = omega arith in one-le-pow n 2 p
 
 pub one_small : (n : ℕ) → 0 < n → 1 < 2 ^ n
 one_small n h = pow_below 0 n h
-
-pub power-half : (n : ℕ) → 0 < n → 2 ^ n ≡ 2 * 2 ^ (n - 1)
-power-half zero h = omega arith
-power-half (suc n) h = let e : suc n - 1 ≡ n = omega arith in rw (e, pow-suc) (omega arith)
 
 -- a half of at most 2 ^ 63, and of at most 2 ^ 127
 pub half-small : (n : ℕ) → n ≤ 64 → 2 ^ (n - 1) ≤ 2 ^ 63

@@ -1,9 +1,10 @@
 -- Whole numbers as n bits, unsigned or in two's complement.
-use Rattle.std.specs.Prelude.{ℕ, ℤ, pos, negsuc, ◌-◌, ◌%◌, ◌^◌, ◌-ℤ◌, Bool, true, false, nat_le, nat_lt, if◌then◌else◌}
+use Rattle.std.specs.Prelude.{ℕ, ℤ, pos, negsuc, ◌-◌, ◌%◌, ◌^◌, ◌-ℤ◌, Bool, true, false, nat_le, if◌then◌else◌}
+use Rattle.gpr_flags.specs.Numbers.{is_negative}
 
 -- n bits as a number in two's complement (SDM volume 1, 4.2.1.2)
 abbrev pub signed_of : (n : ℕ) → ℕ → ℤ
-signed_of n bits = if nat_lt bits (2 ^ (n - 1)) then pos bits else (pos bits -ℤ pos (2 ^ n))
+signed_of n bits = if is_negative n bits then pos bits -ℤ pos (2 ^ n) else pos bits
 
 -- n bits as a number, in two's complement or unsigned
 abbrev pub number_of : (signed : Bool) (n : ℕ) → ℕ → ℤ

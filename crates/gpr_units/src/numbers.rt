@@ -2,7 +2,7 @@
 ghost use Rattle.std.specs.Prelude.{◌≡◌, ◌*◌, ◌<◌, ◌≤◌, ◌^◌, ◌%◌, true};
 ghost use Rattle.gpr_units.specs.Numbers.{signed_of, low_of, is_outside};
 
-use gpr_flags::{low, power};
+use gpr_flags::{is_negative, low, power};
 
 /// How many bits a size in bytes has.
 pub(crate) fn bits_in(size: u8) -> u32
@@ -40,10 +40,10 @@ pub(crate) fn signed(bits: u32, number: u64) -> i64
     requires fits { number < 2 ^ bits }
     ensures { result ≡ signed_of bits number }
 {
-    if number < 1 << (bits - 1) {
-        number as i64
-    } else {
+    if is_negative(bits, number) {
         (i128::from(number) - (1 << bits)) as i64
+    } else {
+        number as i64
     }
 }
 

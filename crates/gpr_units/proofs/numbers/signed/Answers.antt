@@ -1,11 +1,12 @@
-use Rattle.std.proofs.Common.{◌-◌, arith}
+use Rattle.std.proofs.Common.{arith}
 use Rattle.std.proofs.lemmas.Int.{ints}
-use Rattle.gpr_units.proofs.Bits.{power-half, half-small, power-some}
+use Rattle.gpr_flags.proofs.Signs.{power-half, is_negative-by_half}
+use Rattle.gpr_units.proofs.Bits.{half-small}
 use Rattle.gpr_units.proofs.numbers.signed.Goals as goal
 
-pub returns-else-number-bits : goal.returns-else-number-bits
-returns-else-number-bits c =
+pub returns-then-is_negative : goal.returns-then-is_negative
+returns-then-is_negative c =
     let h = half-small c.args.bits c.requires.most in
     let e = power-half c.args.bits c.requires.some in
-    let p = power-some (c.args.bits - 1) in
-    grind (arith, ints, h, e, p)
+    let n = is_negative-by_half c.args.bits c.args.number c.requires.some c.requires.fits in
+    grind (arith, ints, h, e, n)
