@@ -7,6 +7,7 @@ use Rattle.gpr_flags.specs.declared.kinds.Fault.{Fault}
 use Rattle.machine_state.specs.Memory.{Swap, Permissions, first_miss, or_else}
 use Rattle.machine_state.specs.State.{State}
 use Rattle.guest_pages.specs.Table.{Table, perms_in, first_away}
+use Rattle.guest_pages.specs.Walk.{stop_or, walk}
 use Rattle.guest_pages.proofs.Walks.{first_away-away}
 use Rattle.row_table.specs.declared.kinds.Row.{Row}
 use Rattle.row_table.specs.declared.kinds.Decoded.{Decoded}
@@ -20,10 +21,10 @@ use Rattle.core_step.specs.declared.kinds.Instruction.{Instruction}
 use Rattle.core_step.specs.declared.kinds.Outcome.{Outcome}
 use Rattle.core_step.specs.declared.kinds.Plan.{Plan}
 use Rattle.machine_state.specs.declared.kinds.Access.{Access}
-use Rattle.core_step.specs.declared.kinds.Stop.{Stop}
+use Rattle.machine_state.specs.declared.kinds.Stop.{Stop}
 use Rattle.core_step.specs.Operands.{use_of}
 use Rattle.core_step.specs.Plan.{plan_of, plan_accesses}
-use Rattle.core_step.specs.Access.{access_fault, fault_or, first_fault, stop_or, walk, acted_by_miss}
+use Rattle.core_step.specs.Access.{access_fault, fault_or, first_fault, acted_by_miss}
 use Rattle.core_step.specs.Fits.{ActedFits}
 use Rattle.core_step.specs.Act.{After, trapped, number_for, destination_number, gprs_left, byte_left, steps_after, completed, plan_after, unless, performed_as, performed_row, performed}
 use Rattle.core_step.specs.Machine.{after_of, state_of, IsWhole, IsKept, accesses, accesses_by, away_in}

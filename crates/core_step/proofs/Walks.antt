@@ -1,64 +1,29 @@
--- The walk along an access list.
-use Rattle.std.proofs.Common.{◌≡◌, ℕ, false, List, [], ◌∷◌, ◌++◌, Option, Some, None, Result, Ok, Err, MatchResult, refl, sym, ap, ◌∙◌}
+-- The walk along the access list of an instruction.
+use Rattle.std.proofs.Common.{◌≡◌, ℕ, false, [], ◌∷◌, Option, Some, None, Result, Ok, Err, MatchResult, refl, sym, ap, ◌∙◌}
 use Rattle.machine_state.specs.declared.kinds.Kind.{Kind}
 use Rattle.machine_state.specs.declared.kinds.Kind.TheVariants.{Read, Write}
-use Rattle.machine_state.specs.declared.kinds.Miss.{Miss}
+use Rattle.machine_state.specs.declared.kinds.Stop.{Stop}
 use Rattle.guest_pages.specs.Table.{Table, blocked}
+use Rattle.guest_pages.specs.Walk.{walk}
+use Rattle.guest_pages.proofs.WalkLemmas.{first-free, stop_then, stop_then-none, walk-append}
 use Rattle.core_step.specs.declared.kinds.Size.{Size}
 use Rattle.core_step.specs.declared.kinds.Operand.TheVariants.{Memory}
 use Rattle.core_step.specs.declared.kinds.Use.{Use}
 use Rattle.core_step.specs.declared.kinds.Use.TheVariants.{Read as Reads, Write as Writes, Update}
 use Rattle.core_step.specs.declared.kinds.Instruction.{Instruction}
-use Rattle.machine_state.specs.declared.kinds.Access.{Access}
-use Rattle.string_unit.specs.Strings.{first_blocked}
-use Rattle.core_step.specs.declared.kinds.Stop.{Stop}
 use Rattle.core_step.specs.declared.kinds.PairPlan.{PairPlan}
 use Rattle.core_step.specs.Size.{bytes_in}
 use Rattle.core_step.specs.Operands.{use_of}
-use Rattle.core_step.specs.Access.{operand_access, kind_of, accesses_of, walk, stop_or}
+use Rattle.core_step.specs.Access.{operand_access, kind_of, accesses_of}
 use Rattle.core_step.specs.Pair.{pair_bytes, pair_write, pair_access, is_misaligned}
 use Rattle.core_step.specs.Act.{number_for}
-
--- an operand in memory is one access
-walk-memory : (table : Table) (kind : Kind) (addr : ℕ) (size : Size)
-    → walk table (operand_access kind (Memory addr) size) ≡ stop_or kind (blocked table kind addr (bytes_in size)) None
-unfolding walk
-walk-memory table kind addr size = refl
-
--- a walk of one access that doesn't stop has no miss
-stop_or-none : (kind : Kind) (miss : Option Miss) → stop_or kind miss None ≡ None → miss ≡ None
-stop_or-none kind None e = refl
-stop_or-none kind (Some miss) e = cc
 
 -- an operand in memory whose walk doesn't stop can be accessed
 pub free-memory : (table : Table) (kind : Kind) (addr : ℕ) (size : Size) → walk table (operand_access kind (Memory addr) size) ≡ None
     → blocked table kind addr (bytes_in size) ≡ None
-free-memory table kind addr size none = stop_or-none kind _ (sym (walk-memory table kind addr size) ∙ none)
+free-memory table kind addr size none = first-free table (record { kind = kind; addr = addr; len = bytes_in size }) [] none
 
--- ---- two lists, one after the other
-abbrev pub stop_then : Option Stop → Option Stop → Option Stop
-stop_then None later = later
-stop_then (Some stop) later = Some stop
-
--- the first stop of one access and of two lists
-stop_or-then : (kind : Kind) (miss : Option Miss) (first later : Option Stop)
-    → stop_or kind miss (stop_then first later) ≡ stop_then (stop_or kind miss first) later
-stop_or-then kind None first later = refl
-stop_or-then kind (Some miss) first later = refl
-
--- a walk along two lists in a row
-walk-append : (table : Table) (xs ys : List Access) → walk table (xs ++ ys) ≡ stop_then (walk table xs) (walk table ys)
-unfolding walk
-walk-append table [] ys = refl
-walk-append table (x ∷ xs) ys =
-    ap (stop_or x.kind (blocked table x.kind x.addr x.len)) (walk-append table xs ys)
-    ∙ stop_or-then x.kind (blocked table x.kind x.addr x.len) (walk table xs) (walk table ys)
-
--- where two walks in a row don't stop, neither does
-stop_then-none : (first later : Option Stop) → stop_then first later ≡ None → (first ≡ None) × (later ≡ None)
-stop_then-none None later e = (refl, e)
-stop_then-none (Some stop) later e = cc
-
+-- ---- the two operands of an instruction
 abbrev pub source_walk : Table → Instruction → Option Stop
 source_walk table i = walk table (operand_access Read i.source i.source_size)
 
@@ -97,26 +62,8 @@ written-kind Reads number some = absurd (some refl)
 written-kind Writes number some = refl
 written-kind Update number some = refl
 
--- ---- other lists
--- one access, or another one behind it, where nothing stops the walk
-stop_or-both : (kind : Kind) (miss : Option Miss) (rest : Option Stop) → stop_or kind miss rest ≡ None → (miss ≡ None) × (rest ≡ None)
-stop_or-both kind None rest e = (refl, e)
-stop_or-both kind (Some miss) rest e = cc
-
--- where the walk doesn't stop, nothing is blocked
-pub nothing-blocked : (table : Table) (xs : List Access) → walk table xs ≡ None → first_blocked table xs ≡ None
-unfolding walk first_blocked
-nothing-blocked table [] e = refl
-nothing-blocked table (x ∷ xs) e =
-    let both = stop_or-both x.kind (blocked table x.kind x.addr x.len) (walk table xs) e in
-    rw both.0 (nothing-blocked table xs both.1)
-
--- nor is the first access
-first-free : (table : Table) (x : Access) (xs : List Access) → walk table (x ∷ xs) ≡ None → blocked table x.kind x.addr x.len ≡ None
-unfolding walk
-first-free table x xs e = (stop_or-both x.kind (blocked table x.kind x.addr x.len) (walk table xs) e).0
-
--- nor is the access of CMPXCHG8B, or of CMPXCHG16B in a right place
+-- ---- the access list of a pair
+-- the access of CMPXCHG8B, or of CMPXCHG16B in a right place
 pair_access-is : (i : PairPlan) → is_misaligned i ≡ false → pair_access i ≡ pair_write i ∷ []
 unfolding pair_access
 pair_access-is i right = rw right refl

@@ -7,7 +7,6 @@ use Rattle.machine_state.specs.declared.kinds.Miss.TheVariants.{Unmapped, Denied
 use Rattle.gpr_flags.specs.declared.kinds.Fault.{Fault}
 use Rattle.gpr_flags.specs.declared.kinds.Fault.TheVariants.{General, Page}
 use Rattle.machine_state.specs.Memory.{Permissions, first_miss}
-use Rattle.guest_pages.specs.Table.{Table, blocked}
 use Rattle.core_step.specs.declared.acted.Acted.{Acted}
 use Rattle.core_step.specs.declared.acted.Acted.TheVariants.{Trap, Need}
 use Rattle.core_step.specs.declared.kinds.Size.{Size}
@@ -17,7 +16,7 @@ use Rattle.core_step.specs.declared.kinds.Use.{Use}
 use Rattle.core_step.specs.declared.kinds.Use.TheVariants.{Read as Reads, Write as Writes, Update}
 use Rattle.core_step.specs.declared.kinds.Instruction.{Instruction}
 use Rattle.machine_state.specs.declared.kinds.Access.{Access}
-use Rattle.core_step.specs.declared.kinds.Stop.{Stop}
+use Rattle.machine_state.specs.declared.kinds.Stop.{Stop}
 use Rattle.core_step.specs.Size.{bytes_in}
 use Rattle.core_step.specs.Operands.{use_of}
 
@@ -61,17 +60,8 @@ unfoldable pub first_fault : Permissions → List Access → Option Fault
 first_fault perms [] = None
 first_fault perms (access ∷ rest) = fault_or access.kind (first_miss perms access.kind access.addr access.len) (first_fault perms rest)
 
--- ---- the same where pages can be away
-abbrev pub stop_or : Kind → Option Miss → Option Stop → Option Stop
-stop_or kind (Some miss) later = Some (record { kind = kind; miss = miss })
-stop_or kind None later = later
-
--- the first access that can't be made now: of each access permissions are looked at first and then residency
-unfoldable pub walk : Table → List Access → Option Stop
-walk table [] = None
-walk table (access ∷ rest) = stop_or access.kind (blocked table access.kind access.addr access.len) (walk table rest)
-
--- the answer of an instruction whose walk stops
+-- ---- where pages can be away
+-- the answer of an instruction whose walk along its access list stops
 abbrev pub acted_by_miss : Kind → Miss → Acted
 acted_by_miss kind (Away slot) = Need slot
 acted_by_miss kind miss = Trap (access_fault kind miss)

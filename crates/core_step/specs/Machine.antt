@@ -14,7 +14,7 @@ use Rattle.core_step.specs.declared.machine.Machine.{Machine}
 use Rattle.core_step.specs.declared.acted.Acted.{Acted}
 use Rattle.core_step.specs.declared.acted.Acted.TheVariants.{Done, Call, Trap, Need}
 use Rattle.machine_state.specs.declared.kinds.Access.{Access}
-use Rattle.core_step.specs.declared.kinds.Stop.{Stop}
+use Rattle.machine_state.specs.declared.kinds.Stop.{Stop}
 use Rattle.core_step.specs.Plan.{plan_of, plan_accesses}
 use Rattle.core_step.specs.Act.{After, performed}
 

@@ -1,7 +1,6 @@
-//! An instruction with its operands found, what it accesses, and what comes of it.
+//! An instruction with its operands found, and what comes of it.
 use crate::acted::Acted;
 use gpr_flags::Flags;
-use machine_state::{Kind, Miss};
 use row_table::{Op, StringOp};
 
 /// The size of an operand (SDM volume 1, 4.1).
@@ -150,13 +149,6 @@ pub enum Plan {
     OnStrings(StringPlan),
     /// Two registers are compared with memory and exchanged.
     OnPair(PairPlan),
-}
-
-/// Why an instruction's accesses can't be made now, and the kind of the first one that can't.
-#[derive(Clone, Copy, Debug, PartialEq, Eq)]
-pub struct Stop {
-    pub kind: Kind,
-    pub miss: Miss,
 }
 
 /// What comes of an instruction whose accesses can be made.

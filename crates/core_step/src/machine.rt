@@ -3,12 +3,13 @@ ghost use Rattle.std.specs.Prelude.{◌≡◌, ◌↔◌, ◌<◌, ◌≤◌, �
 ghost use Rattle.machine_state.specs.Memory.{Swap};
 ghost use Rattle.guest_pages.specs.Table.{blocked};
 ghost use Rattle.guest_pages.specs.Pages.{table_of, byte_of};
+ghost use Rattle.guest_pages.specs.Walk.{walk};
 ghost use Rattle.guest_pages.specs.Changes.{KeepsTable};
 ghost use Rattle.legacy_decode.specs.Spelling.{IsDecoded};
 ghost use Rattle.row_table.specs.Rows.{rows};
 ghost use Rattle.string_unit.specs.Strings.{string_accesses};
 ghost use Rattle.core_step.specs.Size.{bytes_in};
-ghost use Rattle.core_step.specs.Access.{accesses_of, walk};
+ghost use Rattle.core_step.specs.Access.{accesses_of};
 ghost use Rattle.core_step.specs.Strings.{source_of, destination_of, strings_access, iterated, strings_left};
 ghost use Rattle.core_step.specs.Pair.{pair_bytes, pair_access, pair_left};
 ghost use Rattle.core_step.specs.Plan.{plan_accesses};

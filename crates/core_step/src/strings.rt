@@ -2,17 +2,17 @@
 ghost use Rattle.std.specs.Prelude.{◌≡◌, ◌%◌, ◌^◌, None, if◌then◌else◌};
 ghost use Rattle.machine_state.specs.Memory.{Swap};
 ghost use Rattle.guest_pages.specs.Pages.{table_of, byte_of};
+ghost use Rattle.guest_pages.specs.Walk.{walk};
 ghost use Rattle.guest_pages.specs.Changes.{KeepsTable};
 ghost use Rattle.string_unit.specs.Strings.{string_accesses, string_gprs, string_flags, string_byte};
 ghost use Rattle.core_step.specs.Size.{bytes_in};
-ghost use Rattle.core_step.specs.Access.{walk};
 ghost use Rattle.core_step.specs.Strings.{repeat_of, is_repeated as is_repeated_by, is_met as is_met_by, count_in, is_over as is_over_by, source_of, destination_of, with_count, goes_on as goes_on_by, is_continued as is_continued_by};
 
 use crate::kinds::{Repeat, StringPlan};
 use gpr_flags::{Flags, Gprs, RCX};
 use guest_pages::Pages;
-use row_table::{Fields, Op, StringOp};
-use string_unit::{index, iterate};
+use row_table::{Fields, StringOp};
+use string_unit::{index, iterate_ready};
 
 impl Repeat {
     /// What the last of the prefixes F2 and F3 says.
@@ -73,18 +73,7 @@ pub(crate) fn iterate_once(i: &StringPlan, gprs: &mut Gprs, flags: &mut Flags, p
         (source_of i.now gprs.old) (destination_of i.now gprs.old) gprs.old (byte_of pages.old w) }
     ensures table { KeepsTable pages.old pages.new }
 {
-    match iterate(
-        Op::String(i.op),
-        i.size.bytes(),
-        i.wrap32,
-        i.base,
-        gprs,
-        flags,
-        pages,
-    ) {
-        Ok(()) => {}
-        Err(_) => unreachable!(),
-    }
+    iterate_ready(i.op, i.size.bytes(), i.wrap32, i.base, gprs, flags, pages);
 }
 
 /// Lowers the count by one where the instruction is repeated.

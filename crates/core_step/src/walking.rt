@@ -2,20 +2,21 @@
 ghost use Rattle.std.specs.Prelude.{◌≡◌, ◌≤◌, ◌<◌, ◌+◌, ◌++◌, Some, None, MatchResult};
 ghost use Rattle.arrayvec.specs.ArrayVec.{array_vec_len};
 ghost use Rattle.guest_pages.specs.Pages.{table_of};
-ghost use Rattle.core_step.specs.Access.{operand_access, kind_of, accesses_of, access_fault, acted_by, walk};
+ghost use Rattle.guest_pages.specs.Walk.{walk};
+ghost use Rattle.core_step.specs.Access.{operand_access, kind_of, accesses_of, access_fault, acted_by};
 ghost use Rattle.core_step.specs.Strings.{strings_access};
 ghost use Rattle.core_step.specs.Pair.{pair_access};
 ghost use Rattle.core_step.specs.Plan.{plan_accesses};
 
 use crate::acted::Acted;
-use crate::kinds::{Instruction, Operand, PairPlan, Plan, Size, Stop, StringPlan, Use};
+use crate::kinds::{Instruction, Operand, PairPlan, Plan, Size, StringPlan, Use};
 use crate::operands::destination_use;
 use crate::pair::{is_misaligned, pair_len};
 use crate::strings::is_over;
 use arrayvec::ArrayVec;
 use gpr_flags::{Fault, Gprs};
 use guest_pages::Pages;
-use machine_state::{Access, Kind, Miss};
+use machine_state::{Access, Kind, Miss, Stop};
 use string_unit::{accesses as iteration_accesses, destination_place, source_place};
 
 /// The kind of the access of a destination.
@@ -99,27 +100,12 @@ fn accesses(plan: &Plan, gprs: &Gprs) -> ArrayVec<Access, 2>
     }
 }
 
-/// Walks an access list.
-#[tactic(auto, unfolding(crate::specs::Access::walk))]
-fn check(pages: &Pages, accesses: &[Access]) -> Result<(), Stop>
-    ensures { MatchResult result (λ _. walk (table_of pages.now) accesses.now ≡ None)
-        (λ stop. walk (table_of pages.now) accesses.now ≡ Some stop) }
-{
-    for access in accesses {
-        let kind = access.kind;
-        pages
-            .ready(access.addr, access.len, kind)
-            .map_err(|miss| Stop { kind, miss })?;
-    }
-    Ok(())
-}
-
 /// Walks the access list of an instruction.
 pub(crate) fn check_all(pages: &Pages, plan: &Plan, gprs: &Gprs) -> Result<(), Stop>
     ensures { MatchResult result (λ _. walk (table_of pages.now) (plan_accesses plan.now gprs.now) ≡ None)
         (λ stop. walk (table_of pages.now) (plan_accesses plan.now gprs.now) ≡ Some stop) }
 {
-    check(pages, &accesses(plan, gprs))
+    pages.check(&accesses(plan, gprs))
 }
 
 /// The fault of an access.

@@ -1,6 +1,7 @@
 pub mod Seats
 pub mod Tables
 pub mod Walks
+pub mod WalkLemmas
 pub mod Takes
 pub mod Puts
 pub mod Writes

@@ -4,6 +4,7 @@ pub mod FrameLends
 pub mod Entry
 pub mod EntryLends
 pub mod Table
+pub mod Walk
 pub mod Pages
 pub mod Changes
 pub mod Lists

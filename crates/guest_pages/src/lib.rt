@@ -6,6 +6,7 @@ mod frame;
 mod lists;
 mod numbers;
 mod pages;
+mod walking;
 
 pub use machine_state::{Kind, Miss, Perms};
 pub use pages::{Full, Pages};

@@ -30,6 +30,13 @@ pub enum Miss {
     Away(u32),
 }
 
+/// Where a walk along accesses stops: the kind of the first one that can't be made now, and why it can't.
+#[derive(Clone, Copy, Debug, PartialEq, Eq)]
+pub struct Stop {
+    pub kind: Kind,
+    pub miss: Miss,
+}
+
 /// A call on the outside, as an end names it when that call failed. The number in `Load` and `Store` is the index of
 /// the command line's word that holds the path.
 #[derive(Clone, Copy, Debug, PartialEq, Eq)]

@@ -5,5 +5,5 @@
 mod kinds;
 mod permissions;
 
-pub use kinds::{Access, HostCall, Kind, Miss, RunEnd};
+pub use kinds::{Access, HostCall, Kind, Miss, RunEnd, Stop};
 pub use permissions::Perms;

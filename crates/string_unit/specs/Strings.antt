@@ -1,5 +1,6 @@
 -- One iteration of MOVS, CMPS, STOS, LODS and SCAS (SDM volume 2, the pages of these instructions).
-use Rattle.std.specs.Prelude.{ℕ, ◌+◌, ◌-◌, ◌*◌, ◌%◌, ◌^◌, Bool, true, false, if◌then◌else◌, List, [], ◌∷◌, Option, None, slice_index, slice_set}
+use Rattle.std.specs.Prelude.{ℕ, ◌+◌, ◌-◌, ◌*◌, ◌%◌, ◌^◌, Bool, true, false, if◌then◌else◌, List, [], ◌∷◌, Option, slice_index, slice_set}
+use Rattle.std.specs.Option.{option_map}
 use Rattle.gpr_flags.specs.declared.kinds.Flags.{Flags}
 use Rattle.gpr_flags.specs.Registers.{with_register}
 use Rattle.gpr_flags.specs.declared.registers.TheConstants.{RAX, RSI, RDI}
@@ -10,8 +11,9 @@ use Rattle.row_table.specs.declared.operations.StringOp.TheVariants.{Movs, Cmps,
 use Rattle.gpr_units.specs.Alu.{difference_flags}
 use Rattle.machine_state.specs.declared.kinds.Kind.TheVariants.{Read, Write}
 use Rattle.machine_state.specs.declared.kinds.Miss.{Miss}
-use Rattle.machine_state.specs.Memory.{or_else, bytes_at, written, number_at, number_bytes}
-use Rattle.guest_pages.specs.Table.{Table, blocked}
+use Rattle.machine_state.specs.Memory.{bytes_at, written, number_at, number_bytes}
+use Rattle.guest_pages.specs.Table.{Table}
+use Rattle.guest_pages.specs.Walk.{walk}
 use Rattle.machine_state.specs.declared.kinds.Access.{Access}
 
 -- the operations on strings
@@ -52,10 +54,9 @@ string_accesses Stos size source destination = writes destination size ∷ []
 string_accesses Lods size source destination = reads source size ∷ []
 string_accesses Scas size source destination = reads destination size ∷ []
 
--- what keeps the first access that can't be made now from being made
-unfoldable pub first_blocked : Table → List Access → Option Miss
-first_blocked table [] = None
-first_blocked table (access ∷ rest) = or_else (blocked table access.kind access.addr access.len) (first_blocked table rest)
+-- what keeps the first access of a list that can't be made now from being made
+abbrev pub miss_along : Table → List Access → Option Miss
+miss_along table accesses = option_map (λ stop. stop.miss) (walk table accesses)
 
 -- ---- what comes of it
 -- rsi or rdi moves by the size, down where DF is set (SDM volume 1, 3.4.3.2); with prefix 67 the upper half is cleared

@@ -1,12 +1,9 @@
-//! The accesses of an iteration, and why they can't be made, where they can't.
+//! The accesses of an iteration.
 ghost use Rattle.std.specs.Prelude.{◌≡◌};
-ghost use Rattle.guest_pages.specs.Table.{answer_of};
-ghost use Rattle.guest_pages.specs.Pages.{table_of};
-ghost use Rattle.string_unit.specs.Strings.{reads as reads_of, writes as writes_of, string_accesses, first_blocked};
+ghost use Rattle.string_unit.specs.Strings.{reads as reads_of, writes as writes_of, string_accesses};
 
 use arrayvec::ArrayVec;
-use guest_pages::{Kind, Miss, Pages};
-use machine_state::Access;
+use machine_state::{Access, Kind};
 use row_table::StringOp;
 
 /// A read of so many bytes.
@@ -51,15 +48,4 @@ pub fn accesses(op: StringOp, size: u8, source: u64, destination: u64) -> ArrayV
         StringOp::Scas => list.push(reads(destination, size)),
     }
     list
-}
-
-/// Walks an access list.
-#[tactic(auto, unfolding(crate::specs::Strings::first_blocked))]
-pub(crate) fn check(pages: &Pages, accesses: &[Access]) -> Result<(), Miss>
-    ensures { result ≡ answer_of (first_blocked (table_of pages.now) accesses.now) }
-{
-    for access in accesses {
-        pages.ready(access.addr, access.len, access.kind)?;
-    }
-    Ok(())
 }

@@ -8,7 +8,7 @@ mod registers;
 
 pub use access_list::accesses;
 pub use guest_pages::{Kind, Miss, Pages};
-pub use iteration::iterate;
+pub use iteration::{iterate, iterate_ready};
 pub use registers::{destination_place, index, source_place};
 
 #[cfg(test)]

@@ -9,8 +9,8 @@ use Rattle.guest_pages.specs.Changes.{AllResident}
 use Rattle.guest_pages.specs.Pages.{PagesValue, table_of}
 use Rattle.guest_pages.proofs.Walks.{blocked_resident}
 use Rattle.machine_state.specs.declared.kinds.Access.{Access}
-use Rattle.core_step.specs.declared.kinds.Stop.{Stop}
-use Rattle.core_step.specs.Access.{stop_or, walk}
+use Rattle.machine_state.specs.declared.kinds.Stop.{Stop}
+use Rattle.guest_pages.specs.Walk.{stop_or, walk}
 use Rattle.core_step.specs.Machine.{needed}
 
 -- why an access can't be made, where it isn't for a page that is away

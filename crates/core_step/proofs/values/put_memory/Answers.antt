@@ -1,8 +1,9 @@
 use Rattle.std.proofs.Common.{◌≡◌, None, Some, subst}
 use Rattle.guest_pages.specs.Pages.{table_of}
+use Rattle.guest_pages.specs.Walk.{walk}
 use Rattle.machine_state.specs.declared.kinds.Kind.TheVariants.{Write}
 use Rattle.core_step.specs.declared.kinds.Operand.{Operand}
-use Rattle.core_step.specs.Access.{operand_access, walk}
+use Rattle.core_step.specs.Access.{operand_access}
 use Rattle.core_step.proofs.Walks.{free-memory}
 use Rattle.core_step.proofs.values.put_memory.Goals as goal
 

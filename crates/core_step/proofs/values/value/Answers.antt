@@ -1,7 +1,8 @@
 use Rattle.std.proofs.Common.{◌≡◌, None, subst}
 use Rattle.guest_pages.specs.Pages.{table_of}
+use Rattle.guest_pages.specs.Walk.{walk}
 use Rattle.core_step.specs.declared.kinds.Operand.{Operand}
-use Rattle.core_step.specs.Access.{operand_access, walk}
+use Rattle.core_step.specs.Access.{operand_access}
 use Rattle.core_step.proofs.Walks.{free-memory}
 use Rattle.core_step.proofs.values.value.Goals as goal
 

@@ -1,8 +1,9 @@
 use Rattle.std.proofs.Common.{◌≡◌, None, refl, ap, ◌∙◌, sym, subst}
 use Rattle.guest_pages.specs.Table.{perms_in}
 use Rattle.guest_pages.specs.Pages.{table_of, byte_of, memory_of}
+use Rattle.guest_pages.specs.Walk.{walk}
 use Rattle.core_step.specs.declared.kinds.Use.{Use}
-use Rattle.core_step.specs.Access.{operand_access, walk, kind_of}
+use Rattle.core_step.specs.Access.{operand_access, kind_of}
 use Rattle.core_step.specs.Operands.{use_of}
 use Rattle.core_step.specs.Act.{old_value, value_of, register_value, outcome_in}
 use Rattle.core_step.specs.Result.{outcome_of}

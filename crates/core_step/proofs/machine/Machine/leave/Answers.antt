@@ -1,7 +1,8 @@
 use Rattle.std.proofs.Common.{◌≡◌, None, ap, ◌∙◌, subst}
 use Rattle.guest_pages.specs.Pages.{table_of}
+use Rattle.guest_pages.specs.Walk.{walk}
 use Rattle.machine_state.specs.declared.kinds.Kind.{Kind}
-use Rattle.core_step.specs.Access.{operand_access, walk}
+use Rattle.core_step.specs.Access.{operand_access}
 use Rattle.core_step.specs.declared.kinds.Use.{Use}
 use Rattle.core_step.specs.Operands.{use_of}
 use Rattle.core_step.specs.Act.{number_for}

@@ -1,10 +1,10 @@
 use Rattle.std.proofs.Common.{◌≡◌, ◌↔◌, None, Some, Option, refl, ap, ◌∙◌, sym, subst}
+use Rattle.machine_state.specs.declared.kinds.Stop.{Stop}
 use Rattle.guest_pages.specs.Pages.{table_of, memory_of}
+use Rattle.guest_pages.specs.Walk.{walk}
 use Rattle.core_step.specs.declared.acted.Acted.{Acted}
 use Rattle.core_step.specs.declared.acted.Acted.TheVariants.{Need}
-use Rattle.core_step.specs.declared.kinds.Stop.{Stop}
 use Rattle.core_step.specs.declared.kinds.Plan.{Plan}
-use Rattle.core_step.specs.Access.{walk}
 use Rattle.core_step.specs.Plan.{plan_accesses}
 use Rattle.core_step.specs.Machine.{state_of, IsWhole, accesses, needed}
 use Rattle.core_step.proofs.Steps.{accesses-by, performed-stops, performed-passes, whole-stopped, whole-own, stop-needs}
