@@ -1,5 +1,5 @@
 -- The walk along the access list of an instruction.
-use Rattle.std.proofs.Common.{◌≡◌, ℕ, false, [], ◌∷◌, Option, Some, None, Result, Ok, Err, MatchResult, refl, sym, ap, ◌∙◌}
+use Rattle.std.proofs.Common.{◌≡◌, ℕ, false, [], ◌∷◌, Option, None, refl, sym, ap, ◌∙◌}
 use Rattle.machine_state.specs.declared.kinds.Kind.{Kind}
 use Rattle.machine_state.specs.declared.kinds.Kind.TheVariants.{Read, Write}
 use Rattle.machine_state.specs.declared.kinds.Stop.{Stop}
@@ -39,22 +39,6 @@ accesses-walk table i = walk-append table (operand_access Read i.source i.source
 pub both-free : (table : Table) (i : Instruction) → walk table (accesses_of i) ≡ None
     → (source_walk table i ≡ None) × (destination_walk table i ≡ None)
 both-free table i none = stop_then-none _ _ (sym (accesses-walk table i) ∙ none)
-
--- where the walk of the source stops, that of the instruction does
-pub source-stops : (table : Table) (i : Instruction) (stop : Stop) → source_walk table i ≡ Some stop → walk table (accesses_of i) ≡ Some stop
-source-stops table i stop some = accesses-walk table i ∙ ap (λ (first : Option Stop). stop_then first (destination_walk table i)) some
-
--- else it ends as that of the destination does
-pub destination-ends : (table : Table) (i : Instruction) (end : Option Stop) → source_walk table i ≡ None → destination_walk table i ≡ end
-    → walk table (accesses_of i) ≡ end
-destination-ends table i end none is =
-    accesses-walk table i ∙ ap (λ (first : Option Stop). stop_then first (destination_walk table i)) none ∙ is
-
--- what holds of the two cases of a result
-pub map-result : {A B : Type 0} {P P' : A → Type 0} {Q Q' : B → Type 0} (r : Result A B)
-    → ((x : A) → P x → P' x) → ((y : B) → Q y → Q' y) → MatchResult r P Q → MatchResult r P' Q'
-map-result (Ok x) ok err h = ok x h
-map-result (Err y) ok err h = err y h
 
 -- a destination that a number goes to is accessed by a write
 pub written-kind : (usage : Use) (number : Option ℕ) → (number_for usage number ≡ None → ⊥) → kind_of usage ≡ Write

@@ -1,5 +1,5 @@
 -- Lemmas on the table of the mapped pages.
-use Rattle.std.proofs.Common.{◌≡◌, ℕ, ◌+◌, ◌/◌, ◌<◌, List, [], ◌∷◌, Bool, true, false, cond, Option, Some, None, length, get_or, refl, sym, ap, ◌∙◌, arith, suc, ◌==◌, ⊎_elim, add-zero, zero-add}
+use Rattle.std.proofs.Common.{◌≡◌, ℕ, ◌+◌, ◌/◌, ◌<◌, List, [], ◌∷◌, true, false, Option, Some, None, length, get_or, refl, sym, ap, ◌∙◌, arith, suc, ◌==◌, ⊎_elim, add-zero, zero-add}
 use Rattle.std.proofs.lemmas.Bool.{lt-leb, cases_Bool}
 use Rattle.std.specs.Option.{option_map}
 use Rattle.machine_state.specs.declared.kinds.Kind.{Kind}
@@ -8,10 +8,10 @@ use Rattle.machine_state.specs.declared.kinds.Miss.TheVariants.{Denied}
 use Rattle.machine_state.specs.Memory.{miss_at, permits}
 use Rattle.guest_pages.specs.declared.entry.Entry.{Entry}
 use Rattle.guest_pages.specs.Entry.{holds_page, slot_permits, is_resident}
-use Rattle.guest_pages.specs.Table.{Mapped, Table, perms_in, with_entry}
+use Rattle.guest_pages.specs.Table.{Mapped, perms_in}
 use Rattle.guest_pages.specs.Pages.{PagesValue, Seat, seek, mapped_of, table_of}
 use Rattle.guest_pages.specs.Slots.{LacksPage, IsSeatOf, AreSound, IsGranted}
-use Rattle.guest_pages.proofs.Seats.{seek_at, seek_none, entry_there, same_page}
+use Rattle.guest_pages.proofs.Seats.{seek_at, seek_none, entry_there}
 
 pub table_none : (pages : PagesValue) (page : ℕ) → LacksPage pages.slots page → table_of pages page ≡ None
 unfolding table_of
@@ -90,25 +90,9 @@ mapped_entry pages page mapped is =
     let same : mapped.slot ≡ there.0 = seat.2 ∙ there.1 ∙ zero-add there.0 in
     (rw same there.2, rw same there.3)
 
--- no two mapped pages have one slot
-pub slots_apart : (pages : PagesValue) (page other : ℕ) (one two : Mapped) → table_of pages page ≡ Some one → table_of pages other ≡ Some two → one.slot ≡ two.slot → page ≡ other
-slots_apart pages page other one two is also same =
-    let first = mapped_entry pages page one is in
-    let second = mapped_entry pages other two also in
-    same_page (get_or pages.slots two.slot None) page other (rw same at first.1) second.1
-
 -- a page that a slot holds is mapped
 pub table_some : (pages : PagesValue) (page k : ℕ) → IsSeatOf pages.slots page k → table_of pages page ≡ None → ⊥
 table_some pages page k seat none =
     let there = entry_there (get_or pages.slots k None) page seat.here in
     let some = table_at pages page k there.0 seat there.1 in
     cc
-
-perms_cond : (b : Bool) (x y : Option Mapped) → option_map (λ m. m.perms) (cond b x y) ≡ cond b (option_map (λ m. m.perms) x) (option_map (λ m. m.perms) y)
-perms_cond true x y = refl
-perms_cond false x y = refl
-
--- the permissions where the table has another entry at one page
-pub perms_in-with_entry : (table : Table) (page : ℕ) (entry : Option Mapped)
-    → perms_in (with_entry table page entry) ≡ (λ at. cond (at == page) (option_map (λ m. m.perms) entry) (perms_in table at))
-perms_in-with_entry table page entry = λ i at. perms_cond (at == page) entry (table at) i

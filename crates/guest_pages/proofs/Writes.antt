@@ -1,10 +1,10 @@
 -- Lemmas on pages of which a part was written.
-use Rattle.std.proofs.Common.{◌≡◌, ℕ, ◌+◌, ◌-◌, ◌/◌, ◌%◌, ◌<◌, ◌≤◌, List, [], Bool, true, false, cond, Option, Some, None, length, get_or, set, ◌==◌, refl, sym, ap, ◌∙◌, ⊎_elim, arith, take, slice_range, IfSome, ◌≢◌}
+use Rattle.std.proofs.Common.{◌≡◌, ℕ, ◌+◌, ◌-◌, ◌/◌, ◌%◌, ◌<◌, ◌≤◌, List, Bool, true, false, cond, Option, Some, None, length, get_or, set, ◌==◌, refl, sym, ap, ◌∙◌, ⊎_elim, arith, take, slice_range, IfSome, ◌≢◌}
 use Rattle.std.proofs.lemmas.List.{length-take-le}
 use Rattle.std.proofs.lemmas.Bool.{cases_eq, eq-eqb, ne_eqb, false≢true}
 use Rattle.machine_state.specs.declared.kinds.Kind.{Kind}
 use Rattle.machine_state.specs.Memory.{Swap, written, miss_at, is_noncanonical}
-use Rattle.machine_state.proofs.MemoryLemmas.{written_on, written_none}
+use Rattle.machine_state.proofs.MemoryLemmas.{written_on}
 use Rattle.guest_pages.specs.declared.entry.Entry.{Entry}
 use Rattle.guest_pages.specs.declared.entry.Mark.{Mark}
 use Rattle.guest_pages.specs.declared.entry.Place.{Place}
@@ -21,7 +21,7 @@ use Rattle.guest_pages.proofs.Walks.{ready_here}
 use Rattle.machine_state.specs.declared.kinds.Miss.TheVariants.{Away, NonCanonical, Unmapped}
 use Rattle.guest_pages.specs.declared.lists.Lists.{Lists}
 use Rattle.guest_pages.specs.declared.entry.Mark.TheVariants.{Written}
-use Rattle.guest_pages.proofs.Marks.{touches_within, written_marks_on, written_marks_none}
+use Rattle.guest_pages.proofs.Marks.{touches_within, written_marks_on}
 use Rattle.guest_pages.proofs.Keeps.{kept_changed}
 use Rattle.machine_state.proofs.MemoryLemmas.{length_slice}
 use Rattle.guest_pages.proofs.Puts.{get_or-put_at, test_there, test_elsewhere}
@@ -164,15 +164,6 @@ pub lent_kept : (slots : List (Option Entry)) (frames free capacity : ℕ) (list
     → IsKept (set slots k (Some (entry_with entry at other))) frames free capacity lists
 lent_kept slots frames free capacity lists page k at entry other seat is page_is kept =
     kept_changed slots frames free capacity lists page k entry (entry_with entry at other) seat is page_is refl (stays entry.place at other) kept
-
-pub written_nothing : (pages : PagesValue) (addr : ℕ) → IsWritten pages pages addr []
-written_nothing pages addr = record {
-  size = record { frames = refl; pages = refl };
-  table = refl;
-  byte = λ swap. sym (written_none (byte_of pages swap) addr);
-  marks = sym (written_marks_none (mark_of pages) addr);
-  count = refl;
-}
 
 -- two writes, the second going on where the first ended, are one
 pub writes_on : (old mid new : PagesValue) (addr : ℕ) (bytes : List ℕ) (from end : ℕ) → from ≤ end → end ≤ length bytes → IsWritten old mid addr (take from bytes)

@@ -1,7 +1,6 @@
 -- Lemmas on guest memory: an access in parts, an access along one page, and one write after another.
-use Rattle.std.proofs.Common.{◌≡◌, ℕ, ◌+◌, ◌-◌, ◌/◌, ◌%◌, ◌^◌, ◌<◌, ◌≤◌, List, [], ◌∷◌, ◌++◌, Bool, true, false, cond, Option, Some, None, length, get_or, zero, suc, refl, sym, ap, ◌∙◌, ⊎_elim, arith, nat_lt, nat_le, ◌&&◌, ◌⊎◌, inl, inr, zero-add, add-zero, take, drop, slice_range}
+use Rattle.std.proofs.Common.{◌≡◌, ℕ, ◌+◌, ◌-◌, ◌/◌, ◌%◌, ◌^◌, ◌<◌, ◌≤◌, List, [], ◌∷◌, ◌++◌, Bool, true, false, cond, Option, Some, None, length, get_or, zero, suc, refl, sym, ap, ◌∙◌, ⊎_elim, arith, nat_lt, nat_le, ◌&&◌, zero-add, add-zero, take, drop, slice_range}
 use Rattle.std.proofs.lemmas.List.{length-take, length-take-le, length-drop, get_or-take, get_or-drop, drop_more}
-use Rattle.std.proofs.Math.Seq.{take-length}
 use Rattle.std.proofs.lemmas.Bool.{cases_lt, le-leb, lt-leb, lt-ltb, le-ltb}
 use Rattle.machine_state.specs.declared.kinds.Kind.{Kind}
 use Rattle.machine_state.specs.declared.kinds.Miss.{Miss}
@@ -144,10 +143,6 @@ pub bytes_at-zero : (byte : ℕ → ℕ) (addr : ℕ) → bytes_at byte addr 0 �
 unfolding bytes_at
 bytes_at-zero byte addr = refl
 
-pub bytes_at-suc : (byte : ℕ → ℕ) (addr len : ℕ) → bytes_at byte addr (suc len) ≡ byte addr ∷ bytes_at byte (addr + 1) len
-unfolding bytes_at
-bytes_at-suc byte addr len = refl
-
 pub length-bytes_at : (byte : ℕ → ℕ) (addr len : ℕ) → length (bytes_at byte addr len) ≡ len
 unfolding bytes_at
 length-bytes_at byte addr zero = refl
@@ -261,19 +256,3 @@ written_on_at byte addr bytes from end h l at =
 pub written_on : (byte : ℕ → ℕ) (addr : ℕ) (bytes : List ℕ) (from end : ℕ) → from ≤ end → end ≤ length bytes
     → written (written byte addr (take from bytes)) (addr + from) (slice_range bytes from end) ≡ written byte addr (take end bytes)
 written_on byte addr bytes from end h l = λ i at. written_on_at byte addr bytes from end h l at i
-
--- what was written is read back
-pub bytes_at-written : (byte : ℕ → ℕ) (addr : ℕ) (bytes : List ℕ) → bytes_at (written byte addr bytes) addr (length bytes) ≡ bytes
-bytes_at-written byte addr bytes =
-    sym (bytes_at_listed (written byte addr bytes) addr (length bytes) bytes 0 (omega arith)
-    (λ i h. let same : addr + i - addr ≡ 0 + i = omega arith in
-    written_in byte addr bytes (addr + i) (omega arith) (omega arith) ∙ ap (λ (k : ℕ). get_or bytes k 0) same))
-    ∙ take-length bytes
-
--- a read of bytes that a write doesn't touch
-pub bytes_at-written_elsewhere : (byte : ℕ → ℕ) (addr : ℕ) (bytes : List ℕ) (other len : ℕ) → (other + len ≤ addr) ⊎ (addr + length bytes ≤ other)
-    → bytes_at (written byte addr bytes) other len ≡ bytes_at byte other len
-bytes_at-written_elsewhere byte addr bytes other len (inl below) =
-    bytes_at_same (written byte addr bytes) byte other len (λ i h. written_below byte addr bytes (other + i) (omega arith))
-bytes_at-written_elsewhere byte addr bytes other len (inr above) =
-    bytes_at_same (written byte addr bytes) byte other len (λ i h. written_above byte addr bytes (other + i) (omega arith))

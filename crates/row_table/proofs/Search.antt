@@ -30,9 +30,6 @@ no_marked : (rs : List Row) (f : Fields) (start i : ℕ) (u : Option ℕ) → Ke
 no_marked rs f start i None h = h.0
 no_marked rs f start i (Some k) h = h.0
 
-pub kept-start : (rs : List Row) (f : Fields) (start i : ℕ) → i ≤ start → Kept rs f start i None
-kept-start rs f start i le = (record { none = λ j r g a b h. absurd (omega arith) }, record { none = λ j r g a b h. absurd (omega arith) })
-
 NoneOf-more : (P : Row → Type 0) (rs : List Row) (start i : ℕ) (r : Row) → slice_get rs i ≡ Some r → (P r → ⊥) → NoneOf P rs start i → NoneOf P rs start (i + 1)
 NoneOf-more P rs start i r g not h = record {
   none = λ j q e a b m.

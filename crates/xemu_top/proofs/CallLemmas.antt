@@ -9,7 +9,7 @@ use Rattle.guest_pages.specs.Table.{perms_in, answer_of}
 use Rattle.guest_pages.specs.Pages.{PagesValue, table_of, byte_of, memory_of}
 use Rattle.xemu_top.specs.declared.calls.Stream.{Stream}
 use Rattle.xemu_top.specs.declared.calls.Stream.TheVariants.{Output as OutputStream, ErrorOutput as ErrorStream}
-use Rattle.xemu_top.specs.Call.{put_bytes, put_answer, bad_address, bad_descriptor, answered, write_to, write_call, rdi, rsi, rdx, longest_transfer}
+use Rattle.xemu_top.specs.Call.{put_bytes, put_answer, bad_address, write_to, write_call, rdi, rsi, rdx, longest_transfer}
 use Rattle.xemu_top.specs.Streams.{stream_of, descriptor_of}
 use Rattle.xemu_top.specs.Following.{world_at}
 
@@ -48,15 +48,6 @@ stream_of-some (Some ErrorOutput) stream h = let is : ErrorStream ≡ stream = c
 stream_of-some (Some Input) stream h = cc
 stream_of-some (Some (Opened file)) stream h = cc
 stream_of-some None stream h = cc
-
--- what isn't open on a stream can't be written
-pub write_to-none : (o : Option Descriptor) (addr count : ℕ) (w : World) → None ≡ stream_of o
-    → write_to o addr count w ≡ record w { state = answered w.state bad_descriptor }
-write_to-none (Some Output) addr count w h = cc
-write_to-none (Some ErrorOutput) addr count w h = cc
-write_to-none (Some Input) addr count w h = refl
-write_to-none (Some (Opened file)) addr count w h = refl
-write_to-none None addr count w h = refl
 
 -- a write by its arguments
 pub write_call-is : (base : World) (s : State) (out err : Option (List ℕ)) (number addr count most : ℕ) (descriptor : Option Descriptor)

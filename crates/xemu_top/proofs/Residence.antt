@@ -5,8 +5,6 @@ use Rattle.machine_state.specs.declared.kinds.Miss.{Miss}
 use Rattle.machine_state.specs.declared.kinds.Miss.TheVariants.{Unmapped, Denied, NonCanonical, Away}
 use Rattle.machine_state.proofs.MemoryLemmas.{first_miss_never_away}
 use Rattle.guest_pages.specs.Table.{Table, perms_in, away_at, blocked}
-use Rattle.guest_pages.specs.Changes.{AllResident}
-use Rattle.guest_pages.specs.Pages.{PagesValue, table_of}
 use Rattle.guest_pages.proofs.Walks.{blocked_resident}
 use Rattle.machine_state.specs.declared.kinds.Access.{Access}
 use Rattle.machine_state.specs.declared.kinds.Stop.{Stop}
@@ -30,7 +28,3 @@ none_needed table (x ∷ xs) resident slot e =
     stop-not_needed (blocked table x.kind x.addr x.len) x.kind (walk table xs) slot
     (λ away. first_miss_never_away (perms_in table) x.kind x.addr x.len slot (sym (blocked_resident table x.kind x.addr x.len resident) ∙ away))
     (none_needed table xs resident slot) e
-
--- the same pages are in frames
-pub resident-kept : (old new : PagesValue) → table_of new ≡ table_of old → AllResident old → AllResident new
-resident-kept old new same resident page = ap (λ (t : Table). away_at (t page)) same ∙ resident page

@@ -48,9 +48,6 @@ pub record GoesOn (from : World) (all : ℕ) (now : World) (rest : ℕ) : Type 0
   pub same : run now rest ≡ run from all
   pub stand : (files : Files) (x : Outside) → MayStand files now rest x → MayStand files from all x
 
-pub goes_on-start : (w : World) (all : ℕ) → GoesOn w all w all
-goes_on-start w all = record { same = refl; stand = λ files x h. h }
-
 pub goes_on-step : (from : World) (all : ℕ) (now next : World) (rest : ℕ)
     → GoesOn from all now (suc rest) → Follows now (step now) None next → GoesOn from all next rest
 goes_on-step from all now next rest so_far follows =

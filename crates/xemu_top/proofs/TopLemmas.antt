@@ -6,18 +6,16 @@ use Rattle.machine_state.specs.declared.kinds.HostCall.TheVariants.{Load, Store,
 use Rattle.machine_state.specs.Memory.{Swap}
 use Rattle.machine_state.specs.State.{State}
 use Rattle.machine_state.specs.World.{World, first_descriptors}
-use Rattle.host_edge.specs.Causes.{Rose, Counts}
 use Rattle.host_edge.specs.Streams.{told}
 use Rattle.host_edge.specs.Files.{Held}
 use Rattle.core_step.specs.declared.machine.Machine.{Machine}
 use Rattle.core_step.specs.Machine.{state_of}
-use Rattle.xemu_top.specs.declared.ends.End.{End}
-use Rattle.xemu_top.specs.declared.ends.End.TheVariants.{Exit, Killed, Budget, Words, Image, Host, Memory}
+use Rattle.xemu_top.specs.declared.ends.End.TheVariants.{Words, Image}
 use Rattle.xemu_top.specs.declared.ends.Ended.{Ended}
 use Rattle.xemu_top.specs.Run.{Outside, outside, MayStand}
 use Rattle.xemu_top.specs.Command.{first_world, first_state, image_fits, end_from, command, StandsAt, StandsOnFile, words_fit, path_word}
 use Rattle.xemu_top.specs.Following.{Runs, world_at, is_stopped, IsCaused}
-use Rattle.xemu_top.specs.Headline.{Meets, MeetsImage, IsCounted, failed_call, is_own, is_refusal, is_run_or_memory, state_left, finished, machine_after}
+use Rattle.xemu_top.specs.Headline.{Meets, MeetsImage, failed_call, is_own, state_left, finished, machine_after}
 
 -- the first world, taken apart and put together
 first_world-at : (bytes : List ℕ) (on : Outside)
@@ -89,23 +87,6 @@ module _ (budget : ℕ) (bytes : List ℕ) (on : Outside) (machine : Machine) (o
   meets-finished RunEnd.Budget runs = own RunEnd.Budget refl refl refl runs
   meets-finished (RunEnd.Host call) runs = stopped call runs
 
--- an image that was refused
-pub meets-no_image : (budget : ℕ) (bytes : List ℕ) (on : Outside) (status : ℕ) → image_fits bytes ≡ false
-    → MeetsImage budget bytes on (record { status = status; end = Image (record { number = 15; place = 0 }); machine = None }) on
-meets-no_image budget bytes on status unfit = record {
-  gives = λ _. rw unfit (record { end = refl; machine = λ w. refl; outside_is = refl });
-  stands = λ call h. cc;
-  nothing = λ h. refl;
-}
-
-pub meets-no_memory : (budget : ℕ) (bytes : List ℕ) (on : Outside) (status : ℕ)
-    → MeetsImage budget bytes on (record { status = status; end = Memory; machine = None }) on
-meets-no_memory budget bytes on status = record {
-  gives = λ h. cc;
-  stands = λ call h. cc;
-  nothing = λ h. refl;
-}
-
 pub meets-words : (budget : ℕ) (words : List (List ℕ)) (on : Outside) (status : ℕ)
     → words_fit words ≡ false → Meets budget words on (record { status = status; end = Words (record { word = 0; kind = 15 }); machine = None }) on
 unfolding command
@@ -123,22 +104,6 @@ meets-long budget words on status bytes fit file long = record {
   gives = λ _. rw (fit, file, long) (record { end = refl; machine = λ w. refl; outside_is = refl });
   stands = λ call h. cc;
   nothing = λ h. cc;
-}
-
-pub meets-unloaded : (budget : ℕ) (words : List (List ℕ)) (on : Outside) (status : ℕ)
-    → words_fit words ≡ true → Meets budget words on (record { status = status; end = Host (Load 1); machine = None }) on
-meets-unloaded budget words on status fit = record {
-  gives = λ h. cc;
-  stands = λ call h. let is : Load 1 ≡ call = cc in subst (λ (call : HostCall). StandsAt call budget words on on) is (refl, fit, refl);
-  nothing = λ h. cc;
-}
-
-pub meets-memory : (budget : ℕ) (words : List (List ℕ)) (on : Outside) (status : ℕ)
-    → Meets budget words on (record { status = status; end = Memory; machine = None }) on
-meets-memory budget words on status = record {
-  gives = λ h. cc;
-  stands = λ call h. cc;
-  nothing = λ h. refl;
 }
 
 pub meets-image : (budget : ℕ) (words : List (List ℕ)) (on : Outside) (ended : Ended) (now : Outside) (bytes : List ℕ) (o o' e e' : ℕ)
@@ -163,37 +128,6 @@ meets-image budget words on ended now bytes o o' e e' fit file image cause = rec
     stands_at Take c s = absurd c
     stands_at PutOut c s = s
     stands_at PutErr c s = s
-
--- a run in which no count rose ended by itself
-pub complete-image : (end : End) (o o' e e' : ℕ) → is_refusal end ≡ false → IsCaused (failed_call end) o o' e e'
-    → (Rose o o' → ⊥) → (Rose e e' → ⊥) → is_run_or_memory end ≡ true
-complete-image (Exit code) o o' e e' ran cause quiet_out quiet_err = refl
-complete-image (Killed signal) o o' e e' ran cause quiet_out quiet_err = refl
-complete-image Budget o o' e e' ran cause quiet_out quiet_err = refl
-complete-image Memory o o' e e' ran cause quiet_out quiet_err = refl
-complete-image (Words fault) o o' e e' ran cause quiet_out quiet_err = cc
-complete-image (Image fault) o o' e e' ran cause quiet_out quiet_err = cc
-complete-image (Host (Load word)) o o' e e' ran cause quiet_out quiet_err = absurd cause
-complete-image (Host (Store word)) o o' e e' ran cause quiet_out quiet_err = absurd cause
-complete-image (Host SwapOpen) o o' e e' ran cause quiet_out quiet_err = absurd cause
-complete-image (Host SwapGet) o o' e e' ran cause quiet_out quiet_err = absurd cause
-complete-image (Host SwapPut) o o' e e' ran cause quiet_out quiet_err = absurd cause
-complete-image (Host Take) o o' e e' ran cause quiet_out quiet_err = absurd cause
-complete-image (Host PutOut) o o' e e' ran cause quiet_out quiet_err = absurd (quiet_out cause.0)
-complete-image (Host PutErr) o o' e e' ran cause quiet_out quiet_err = absurd (quiet_err cause.0)
-
--- the counts of all the outside, where only puts were made
-pub counted-image : (call : Option HostCall) (host : Counts) (take o o' e e' : ℕ) → IsCaused call o o' e e'
-    → IsCounted call (record { host = host; take = take; out = o; err = e }) (record { host = host; take = take; out = o'; err = e' })
-counted-image None host take o o' e e' c = rw (c.0, c.1) refl
-counted-image (Some (Load word)) host take o o' e e' c = absurd c
-counted-image (Some (Store word)) host take o o' e e' c = absurd c
-counted-image (Some SwapOpen) host take o o' e e' c = absurd c
-counted-image (Some SwapGet) host take o o' e e' c = absurd c
-counted-image (Some SwapPut) host take o o' e e' c = absurd c
-counted-image (Some Take) host take o o' e e' c = absurd c
-counted-image (Some PutOut) host take o o' e e' c = (c.0, rw c.1 refl)
-counted-image (Some PutErr) host take o o' e e' c = (c.0, rw c.1 refl)
 
 -- what a host holds that tells it
 pub held_of : (holds : Option Held) → IsSome holds → (held : Held) × (holds ≡ Some held)

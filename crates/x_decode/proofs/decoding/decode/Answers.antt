@@ -1,6 +1,5 @@
-use Rattle.std.proofs.Common.{◌≡◌, refl, None, rules}
+use Rattle.std.proofs.Common.{refl, None, rules}
 use Rattle.std.proofs.Common.{Some as some}
-use Rattle.x_decode.specs.Seeing.{IsSeen}
 use Rattle.x_decode.proofs.Cases.{Told, told, neither, whole-not_short, whole-not_long, some-instr, some-in_range, some-not_bad, none-instr, none-bad, cut-instr, cut-short, dead-instr, dead-not_short, dead-bad}
 use Rattle.x_decode.proofs.Computing.{whole-seen, whole-stays, dead-seen, dead-stays, few-seen, many-seen, many-stays}
 use Rattle.x_decode.proofs.decoding.decode.Goals as goal
