@@ -23,7 +23,7 @@ use Rattle.core_step.specs.declared.fetching.Fetched.TheVariants.{Need}
 use Rattle.core_step.specs.declared.machine.Machine.{Machine}
 use Rattle.core_step.specs.Act.{act, act_on, trapped, fetch_fault}
 use Rattle.core_step.specs.Machine.{state_of}
-use Rattle.core_step.specs.Fetch.{IsRun, IsFetched, IsFetchFit, NeedsPage, outcome, stopped}
+use Rattle.core_step.specs.Fetch.{IsRun, IsFetched, IsFetchFit, IsOutcome, NeedsPage, outcome, stopped}
 use Rattle.core_step.proofs.Steps.{IsDenial}
 
 -- there isn't both something and nothing
@@ -313,6 +313,16 @@ fetches m into count stop what answer read is e = subst (Fetches m) (sym e) (rec
     fits : IsFetchFit (outcome what stop)
     fits = outcome-fits (take count into) what stop is.within (λ d n e. (is.instr d n).0 e)
 
--- where as many bytes could be read as were asked for, those are all
-pub all-seen : (into : List ℕ) (count : ℕ) (what : Seen) → length into ≡ 15 → count ≡ 15 → IsSeen into what → IsSeen (take count into) what
-all-seen into count what most all is = subst (λ (bytes : List ℕ). IsSeen bytes what) (sym (take_all count into (omega arith))) is
+-- where as many bytes could be read as were asked for, nothing stopped the next one
+unstopped : (table : Table) (addr most count : ℕ) (stop : Option Miss) → IsRun table addr most count stop → count ≡ most → stop ≡ None
+unstopped table addr most count None run all = refl
+unstopped table addr most count (Some miss) run all = absurd (omega (arith, run.end.0))
+
+-- and those bytes are all
+pub fetches-all : (m : Machine) (into : List ℕ) (count : ℕ) (stop : Option Miss) (answer : Fetched) → IsRead m into count stop → count ≡ 15
+    → IsOutcome into answer → Fetches m answer
+fetches-all m into count stop answer read all of =
+    let none : stop ≡ None = unstopped (table_of m.pages) m.rip (length into) count stop read.run (omega (arith, read.most)) in
+    let whole : take count into ≡ into = take_all count into (omega (arith, read.most)) in
+    fetches m into count stop of.what answer read (subst (λ (bytes : List ℕ). IsSeen bytes of.what) (sym whole) of.seen)
+    (of.is ∙ ap (outcome of.what) (sym none))

@@ -1,5 +1,5 @@
 -- The fetch of an instruction, as far as its bytes can be had now.
-use Rattle.std.specs.Prelude.{ℕ, ◌≡◌, ◌<◌, ◌≤◌, ◌+◌, ◌/◌, true, false, Option, Some, None, MatchOption, ⊤}
+use Rattle.std.specs.Prelude.{ℕ, ◌≡◌, ◌<◌, ◌≤◌, ◌+◌, ◌/◌, true, false, List, Option, Some, None, MatchOption, ⊤}
 use Rattle.machine_state.specs.declared.kinds.Kind.TheVariants.{Execute}
 use Rattle.machine_state.specs.declared.kinds.Miss.{Miss}
 use Rattle.machine_state.specs.declared.kinds.Miss.TheVariants.{Unmapped, Denied, NonCanonical, Away}
@@ -10,7 +10,7 @@ use Rattle.guest_pages.specs.Table.{Table, perms_in, away_at, blocked}
 use Rattle.legacy_decode.specs.Spelling.{IsDecoded}
 use Rattle.x_decode.specs.declared.kinds.Seen.{Seen}
 use Rattle.x_decode.specs.declared.kinds.Seen.TheVariants.{Instr as Spells, Short, TooLong, Bad}
-use Rattle.x_decode.specs.Seeing.{seen}
+use Rattle.x_decode.specs.Seeing.{seen, IsSeen}
 use Rattle.core_step.specs.declared.fetching.Fetched.{Fetched}
 use Rattle.core_step.specs.declared.fetching.Fetched.TheVariants.{Instr, Trap, Need}
 use Rattle.core_step.specs.Act.{act, performed, trapped}
@@ -45,6 +45,12 @@ outcome (Spells d len) stop = Instr d len
 outcome Short stop = stopped stop
 outcome TooLong stop = Trap General
 outcome Bad stop = Trap Undefined
+
+-- what comes of bytes all of which could be read
+pub record IsOutcome (bytes : List ℕ) (answer : Fetched) : Type 0 where
+  pub what : Seen
+  pub seen : IsSeen bytes what
+  pub is : answer ≡ outcome what None
 
 -- the instruction that was fetched is the one that a step performs, and the fault of a fetch is that of a step
 abbrev pub IsFetched : State → Fetched → Type 0

@@ -10,4 +10,5 @@ pub mod Plan
 pub mod Result
 pub mod Act
 pub mod Fetch
+pub mod Kept
 pub mod Machine

@@ -5,6 +5,7 @@
 
 mod acted;
 mod addressing;
+mod fetcher;
 mod fetching;
 mod flags;
 mod kinds;
@@ -22,10 +23,10 @@ mod values;
 mod walking;
 
 pub use acted::Acted;
+pub use fetcher::Fetcher;
 pub use fetching::Fetched;
 pub use gpr_flags::{Fault, Flags, Gprs};
 pub use guest_pages::Pages;
 pub use machine::Machine;
 pub use machine_state::{Kind, Perms};
 pub use row_table::Decoded;
-pub use x_decode::Decoder;

@@ -19,6 +19,7 @@ ghost use Rattle.core_step.specs.Fetch.{NeedsPage, IsFetched, IsFetchFit};
 ghost use Rattle.core_step.specs.Machine.{IsWhole, IsKept, IsLocal, IsFramed, accesses, needed, state_of, after_of};
 
 use crate::acted::Acted;
+use crate::fetcher::Fetcher;
 use crate::fetching::{Fetched, outcome as fetched, read_run};
 use crate::kinds::{Instruction, Outcome, PairPlan, Plan, StringPlan};
 use crate::operands::destination_use;
@@ -31,7 +32,7 @@ use gpr_flags::{Fault, Flags, Gprs};
 use guest_pages::Pages;
 use machine_state::Kind;
 use row_table::{Decoded, row};
-use x_decode::{Decoder, decode};
+use x_decode::decode;
 
 /// The processor with its memory: general registers, flags, instruction pointer, pages, and the number of completed
 /// steps.
@@ -58,19 +59,19 @@ impl Machine {
         fetched(decode(&bytes[..run.count]), run.stop)
     }
 
-    /// The same by a decoder that keeps what it decodes.
-    pub fn fetch_by(&self, decoder: &mut Decoder) -> Fetched
-        ensures whole { (w : Swap) → IsFetched (state_of self.now w) result }
-        ensures need { (w : Swap) (slot : ℕ) → (result ≡ Fetched.Need slot)
+    /// The same by a fetcher, which keeps what came of fetches.
+    pub fn fetch_by<'f>(&self, fetcher: &'f mut Fetcher) -> &'f Fetched
+        ensures whole { (w : Swap) → IsFetched (state_of self.now w) result.now }
+        ensures need { (w : Swap) (slot : ℕ) → (result.now ≡ Fetched.Need slot)
             ↔ NeedsPage (table_of self.now.pages) (byte_of self.now.pages w) self.now.rip slot }
-        ensures fits { IsFetchFit result }
+        ensures fits { IsFetchFit result.now }
     {
         let mut bytes = [0; 15];
         let run = read_run(&self.pages, self.rip, &mut bytes);
         if run.count == bytes.len() {
-            fetched(decoder.decode(self.rip, &bytes), run.stop)
+            fetcher.recall(self.rip, &bytes)
         } else {
-            fetched(decode(&bytes[..run.count]), run.stop)
+            fetcher.hold(fetched(decode(&bytes[..run.count]), run.stop))
         }
     }
 

@@ -2,7 +2,7 @@ mod processor;
 
 use crate::addressing::address;
 use crate::kinds::Bases;
-use crate::{Acted, Decoder, Fault, Fetched, Flags, Gprs, Machine, Pages, Perms};
+use crate::{Acted, Fault, Fetched, Fetcher, Flags, Gprs, Machine, Pages, Perms};
 use machine_state::Kind;
 use processor::{Row, State};
 use std::alloc::Global;
@@ -340,17 +340,17 @@ fn a_loop_is_called_and_returns(rt: HostRuntime) -> Result<(), Fail> {
     Ok(())
 }
 
-// mov al, n, where n is written anew before each step, by a decoder that keeps what it decodes
+// mov al, n, where n is written anew before each step, by a fetcher that keeps what came of fetches
 #[test]
 fn changed_code_is_fetched_anew(rt: HostRuntime) -> Result<(), Fail> {
     let mut m = machine(&rt, rt.alloc(), &[0xB0, 0])?;
-    let mut decoder = Decoder::new(rt.alloc())?;
+    let mut fetcher = Fetcher::new(rt.alloc())?;
     for number in [5, 6, 6, 7] {
         m.rip = CODE + 0x100;
         assert_eq!(rt; m.pages.write(CODE + 0x101, &[number]), Ok(()));
         assert!(rt; m.steps < 100);
-        match m.fetch_by(&mut decoder) {
-            Fetched::Instr(d, len) => assert_eq!(rt; m.perform(&d, len), Acted::Done),
+        match m.fetch_by(&mut fetcher) {
+            Fetched::Instr(d, len) => assert_eq!(rt; m.perform(d, *len), Acted::Done),
             _ => panic!(rt; "no instruction"),
         }
         assert_eq!(rt; m.gprs.get(0) % 0x100, u64::from(number));

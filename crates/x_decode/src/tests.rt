@@ -1,9 +1,6 @@
 //! Known byte lists. What is expected is the SDM's, and on want of an instruction this machine's.
-ghost use Rattle.x_decode.specs.Seeing.{InRange};
-
 use crate::*;
 use row_table::{BitOp, CoreOp, GprOp, Op, row};
-use std::test::Fail;
 
 /// The name of the operation, of those that the test meets.
 fn name(op: Op) -> &'static str {
@@ -38,10 +35,8 @@ const SHORT: Told = ("short", 0, 0);
 
 const TOO_LONG: Told = ("too long", 0, 0);
 
-fn told_of(bytes: &[u8], seen: Seen) -> Told
-    requires { InRange bytes.now seen }
-{
-    match seen {
+fn told_of(bytes: &[u8]) -> Told {
+    match decode(bytes) {
         Seen::Instr(decoded, len) => (name(row(decoded.row).op), len, decoded.disp),
         Seen::Short => SHORT,
         Seen::TooLong => TOO_LONG,
@@ -125,33 +120,8 @@ fn seen_bytes() -> &'static [(&'static [u8], Told)] {
 #[test]
 fn known_bytes_are_seen_as_the_manual_says(rt: HostRuntime) {
     for (bytes, want) in seen_bytes() {
-        assert_eq!(rt; told_of(bytes, decode(bytes)), *want, "at {bytes:?}");
+        assert_eq!(rt; told_of(bytes), *want, "at {bytes:?}");
     }
-}
-
-/// The first fifteen of the bytes, or the bytes and one-byte instructions behind them.
-fn fifteen(bytes: &[u8]) -> [u8; 15] {
-    let mut all = [0x90; 15];
-    for (to, from) in all.iter_mut().zip(bytes.iter()) {
-        *to = *from;
-    }
-    all
-}
-
-// Bytes at one place are seen as what they are, whatever stood there before, and again when they come again.
-#[test]
-fn what_is_kept_is_known_by_its_bytes(rt: HostRuntime) -> Result<(), Fail> {
-    let mut decoder = Decoder::new(rt.alloc())?;
-    for (bytes, want) in seen_bytes() {
-        if *want != SHORT {
-            let all = fifteen(bytes);
-            for _ in 0..2 {
-                let seen = decoder.decode(7, &all);
-                assert_eq!(rt; told_of(&all, seen), *want, "at {bytes:?}");
-            }
-        }
-    }
-    Ok(())
 }
 
 /// The operation's name and the bits of its general operand: the row's, or the operand size.

@@ -7,7 +7,7 @@ ghost use Rattle.xemu_top.specs.Step.{step, after_part, signal_of as signal_of_f
 ghost use Rattle.xemu_top.specs.Following.{FollowsAt, RunsAt, IsCaused, SignalFits, stopped_by};
 
 use crate::calls::answer_call;
-use core_step::{Acted, Decoded, Decoder, Fetched, Machine};
+use core_step::{Acted, Decoded, Fetched, Fetcher, Machine};
 use gpr_flags::Fault;
 use host_edge::Sink;
 use machine_state::RunEnd;
@@ -71,7 +71,7 @@ fn perform<O: Sink, E: Sink>(
 /// One whole step: an instruction is fetched and performed, or the guest ends by the fault of its fetch.
 fn turn<O: Sink, E: Sink>(
     machine: &mut Machine,
-    decoder: &mut Decoder,
+    fetcher: &mut Fetcher,
     out: &mut O,
     err: &mut E,
 ) -> Option<RunEnd>
@@ -86,9 +86,9 @@ fn turn<O: Sink, E: Sink>(
     ensures cause { IsCaused (stopped_by result) (O.faults out.old) (O.faults out.new) (E.faults err.old) (E.faults err.new) }
     ensures signal { SignalFits result }
 {
-    match machine.fetch_by(decoder) {
-        Fetched::Instr(d, len) => perform(machine, &d, len, out, err),
-        Fetched::Trap(fault) => Some(kill(machine, fault)),
+    match machine.fetch_by(fetcher) {
+        Fetched::Instr(d, len) => perform(machine, d, *len, out, err),
+        Fetched::Trap(fault) => Some(kill(machine, *fault)),
         Fetched::Need(_) => unreachable!(),
     }
 }
@@ -96,7 +96,7 @@ fn turn<O: Sink, E: Sink>(
 /// Runs until the guest ends or `upto` steps are completed.
 pub(crate) fn run<O: Sink, E: Sink>(
     machine: &mut Machine,
-    decoder: &mut Decoder,
+    fetcher: &mut Fetcher,
     upto: u64,
     out: &mut O,
     err: &mut E,
@@ -111,7 +111,7 @@ pub(crate) fn run<O: Sink, E: Sink>(
     ensures signal { SignalFits (Some result) }
 {
     while machine.steps < upto {
-        match turn(machine, decoder, out, err) {
+        match turn(machine, fetcher, out, err) {
             None => {}
             Some(end) => return end,
         }

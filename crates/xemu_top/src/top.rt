@@ -9,7 +9,7 @@ ghost use Rattle.xemu_top.specs.Headline.{Meets, MeetsImage, outside_told, Tally
 use crate::ends::{End, Ended, ImageFault, WordFault};
 use crate::loading::{Loaded, first_machine, image_fits, load_file};
 use crate::running::run;
-use core_step::{Decoder, Machine};
+use core_step::{Fetcher, Machine};
 use host_edge::{Host, Sink, Source};
 use machine_state::{HostCall, RunEnd};
 use std::alloc::Global;
@@ -99,13 +99,13 @@ fn on_image<O: Sink, E: Sink>(alloc: Global, bytes: &[u8], out: &mut O, err: &mu
     if !image_fits(bytes) {
         return refused(End::Image(NO_IMAGE));
     }
-    let mut decoder = match Decoder::new(alloc) {
-        Ok(decoder) => decoder,
+    let mut fetcher = match Fetcher::new(alloc) {
+        Ok(fetcher) => fetcher,
         Err(_) => return refused(End::Memory),
     };
     match first_machine(alloc, bytes) {
         Ok(mut machine) => {
-            let end = run(&mut machine, &mut decoder, BUDGET, out, err);
+            let end = run(&mut machine, &mut fetcher, BUDGET, out, err);
             finish(end, machine)
         }
         Err(_) => refused(End::Memory),

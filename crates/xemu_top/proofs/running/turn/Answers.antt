@@ -1,4 +1,6 @@
-use Rattle.std.proofs.Common.{◌∙◌, ◌+◌, ◌/◌, sym, refl, Some, []}
+use Rattle.std.proofs.Common.{◌∙◌, ◌+◌, ◌/◌, sym, refl, subst, Some, []}
+use Rattle.core_step.specs.declared.fetching.Fetched.{Fetched}
+use Rattle.core_step.specs.Fetch.{IsFetched}
 use Rattle.machine_state.specs.declared.kinds.RunEnd.TheVariants.{Killed}
 use Rattle.core_step.specs.Act.{performed, trapped}
 use Rattle.core_step.specs.Machine.{state_of}
@@ -10,21 +12,21 @@ use Rattle.xemu_top.proofs.running.turn.Goals as goal
 -- no page is away
 pub unreachable-requires : goal.unreachable-requires
 unreachable-requires g c =
-    let needed = (c.in-Need.ensures.need (λ page. []) c.in-Need.field-0).0 refl in
+    let needed = (c.fetch_by.ensures.need (λ page. []) c.in-Need.field-0).0 c.in-Need.is in
     let away = sym (c.requires.resident ((c.args.machine.now.rip + needed.count) / 4096)) ∙ needed.away in
     cc
 
 pub returns-in-Instr-clause-follows : goal.returns-in-Instr-clause-follows
 returns-in-Instr-clause-follows g c w base first out_tells err_tells =
     rw (step_is (world_at base (state_of c.args.machine.now w) (g.O.Sink.taken c.args.out.now) (g.E.Sink.taken c.args.err.now))
-    (performed c.in-Instr.d c.in-Instr.len (state_of c.args.machine.now w)) (c.in-Instr.ensures.whole w))
+    (performed c.in-Instr.d c.in-Instr.len (state_of c.args.machine.now w)) (subst (λ (f : Fetched). IsFetched (state_of c.args.machine.now w) f) c.in-Instr.is (c.fetch_by.ensures.whole w)))
     (c.perform.ensures.follows w base first out_tells err_tells)
 
 pub returns-in-Trap-clause-follows : goal.returns-in-Trap-clause-follows
 returns-in-Trap-clause-follows g c w base first out_tells err_tells =
     rw (
       step_is (world_at base (state_of c.args.machine.now w) (g.O.Sink.taken c.args.out.now) (g.E.Sink.taken c.args.err.now))
-          (trapped c.in-Trap.fault (state_of c.args.machine.now w)) (c.in-Trap.ensures.whole w),
+          (trapped c.in-Trap.fault (state_of c.args.machine.now w)) (subst (λ (f : Fetched). IsFetched (state_of c.args.machine.now w) f) c.in-Trap.is (c.fetch_by.ensures.whole w)),
       c.kill.ensures.end,
       c.kill.ensures.machine,
     )

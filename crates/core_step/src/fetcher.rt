@@ -1,0 +1,109 @@
+//! What was fetched before, known by its bytes.
+ghost use Rattle.std.specs.Prelude.{◌≡◌, ◌<◌, ℕ, length, vec_len, slice_index_or, IfOk};
+ghost use Rattle.core_step.specs.Fetch.{IsOutcome};
+
+use crate::fetching::{Fetched, outcome};
+use gpr_flags::Fault;
+use std::alloc::{AllocError, Global};
+use std::marker::Model;
+use x_decode::decode;
+
+/// An instruction's bytes at most.
+const LIMIT: usize = 15;
+
+/// How many byte strings are kept.
+const ROOM: usize = 4096;
+
+/// Fifteen bytes, and what comes of their fetch.
+#[derive(Clone, Copy)]
+struct Sighting {
+    bytes: [u8; LIMIT],
+    fetched: Fetched,
+}
+
+impl Sighting {
+    fn of(bytes: &[u8]) -> Sighting
+        requires { length bytes.now ≡ LIMIT }
+        ensures bytes { result.bytes ≡ bytes.now }
+        ensures fetched { IsOutcome result.bytes result.fetched }
+    {
+        let mut own = [0; LIMIT];
+        own.copy_from_slice(bytes);
+        Sighting {
+            bytes: own,
+            fetched: outcome(decode(&own), None),
+        }
+    }
+
+    /// Makes it one of these bytes, unless it is one already.
+    fn renew(&mut self, bytes: &[u8])
+        requires len { length bytes.now ≡ LIMIT }
+        requires fetched { IsOutcome self.old.bytes self.old.fetched }
+        ensures bytes { self.new.bytes ≡ bytes.now }
+        ensures fetched { IsOutcome self.new.bytes self.new.fetched }
+    {
+        if self.bytes[..] != bytes[..] {
+            *self = Sighting::of(bytes);
+        }
+    }
+}
+
+/// Keeps what came of fetches, by their bytes, so that an instruction that comes again is only compared. Since it is known by
+/// its bytes, one that was changed in memory is decoded anew. A contract sees how many byte strings are kept.
+#[derive(Drop)]
+pub struct Fetcher {
+    kept: Vec<Sighting>,
+    /// What came of the last fetch of fewer than fifteen bytes.
+    other: Fetched,
+}
+
+impl Model for Fetcher {
+    ghost use Rattle.std.specs.Prelude.{ℕ, vec_len};
+    ghost use Rattle.core_step.specs.Kept.{AreKept};
+
+    ghost Value = { ℕ };
+
+    ghost view = { λ f. vec_len f.kept };
+
+    ghost invariant = { λ f. AreKept f.kept.items };
+}
+
+/// A vector of so many copies.
+fn copies(alloc: Global, count: usize, one: Sighting) -> Result<Vec<Sighting>, AllocError>
+    ensures count { IfOk result (λ v. vec_len v ≡ count) }
+    ensures same { IfOk result (λ v. (k : ℕ) (other : _) → k < count → slice_index_or v.items k other ≡ one) }
+{
+    vec![in alloc; one; count]
+}
+
+impl Fetcher {
+    /// Takes all the memory that it will ever have.
+    pub fn new(alloc: Global) -> Result<Fetcher, AllocError>
+        ensures { IfOk result (λ fetcher. fetcher ≡ ROOM) }
+    {
+        let kept = copies(alloc, ROOM, Sighting::of(&[0; LIMIT]))?;
+        Ok(Fetcher {
+            kept,
+            other: Fetched::Trap(Fault::General),
+        })
+    }
+
+    /// What comes of fifteen bytes that can be executed and stand at the address `at`. The address says where to look for what
+    /// came of them before, and nothing more.
+    pub(crate) fn recall(&mut self, at: u64, bytes: &[u8]) -> &Fetched
+        requires { length bytes.now ≡ LIMIT }
+        ensures { IsOutcome bytes.now result.now }
+    {
+        let sighting = &mut self.kept[(at % ROOM as u64) as usize];
+        sighting.renew(bytes);
+        &sighting.fetched
+    }
+
+    /// Holds what comes of fewer bytes.
+    pub(crate) fn hold(&mut self, fetched: Fetched) -> &Fetched
+        ensures { result.now ≡ fetched }
+    {
+        self.other = fetched;
+        &self.other
+    }
+}
