@@ -6,10 +6,7 @@ use crate::fetching::{Fetched, outcome};
 use gpr_flags::Fault;
 use std::alloc::{AllocError, Global};
 use std::marker::Model;
-use x_decode::decode;
-
-/// An instruction's bytes at most.
-const LIMIT: usize = 15;
+use x_decode::{LIMIT, decode};
 
 /// How many byte strings are kept.
 const ROOM: usize = 4096;

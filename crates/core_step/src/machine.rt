@@ -32,7 +32,7 @@ use gpr_flags::{Fault, Flags, Gprs};
 use guest_pages::Pages;
 use machine_state::Kind;
 use row_table::{Decoded, row};
-use x_decode::decode;
+use x_decode::{LIMIT, decode};
 
 /// The processor with its memory: general registers, flags, instruction pointer, pages, and the number of completed
 /// steps.
@@ -54,7 +54,7 @@ impl Machine {
             ↔ NeedsPage (table_of self.now.pages) (byte_of self.now.pages w) self.now.rip slot }
         ensures fits { IsFetchFit result }
     {
-        let mut bytes = [0; 15];
+        let mut bytes = [0; LIMIT];
         let run = read_run(&self.pages, self.rip, &mut bytes);
         fetched(decode(&bytes[..run.count]), run.stop)
     }
@@ -66,7 +66,7 @@ impl Machine {
             ↔ NeedsPage (table_of self.now.pages) (byte_of self.now.pages w) self.now.rip slot }
         ensures fits { IsFetchFit result.now }
     {
-        let mut bytes = [0; 15];
+        let mut bytes = [0; LIMIT];
         let run = read_run(&self.pages, self.rip, &mut bytes);
         if run.count == bytes.len() {
             fetcher.recall(self.rip, &bytes)

@@ -66,7 +66,8 @@ seen_of count Dead = Bad
 unfoldable pub seen : List ℕ → Seen
 seen bytes = seen_of (length bytes) (scanned bytes)
 
--- all that is said of an answer
+-- all that is said of an answer: each is given exactly where its definition holds, it is in range, it is what `seen` computes, and
+-- more bytes don't change it, unless all of them are the first of an instruction and fewer than fifteen
 pub record IsSeen (bytes : List ℕ) (what : Seen) : Type 0 where
   pub instr : (d : Decoded) (n : ℕ) → (what ≡ Instr d n) ↔ IsInstr bytes d n
   pub short : (what ≡ Short) ↔ IsShort bytes

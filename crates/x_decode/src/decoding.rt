@@ -11,7 +11,7 @@ use legacy_decode::match_legacy;
 use row_table::{Class, Decoded, Fields};
 
 /// An instruction's bytes at most (Intel SDM volume 2, section 2.3.11).
-const LIMIT: usize = 15;
+pub const LIMIT: usize = 15;
 
 /// The instruction with these fields, by the rules of their class.
 fn matched(fields: &Fields) -> Option<Decoded>

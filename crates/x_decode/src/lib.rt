@@ -4,7 +4,7 @@
 mod decoding;
 mod kinds;
 
-pub use decoding::decode;
+pub use decoding::{LIMIT, decode};
 pub use kinds::Seen;
 
 #[cfg(test)]
