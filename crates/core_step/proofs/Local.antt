@@ -12,8 +12,7 @@ use Rattle.machine_state.specs.declared.kinds.Miss.{Miss}
 use Rattle.machine_state.specs.declared.kinds.Miss.TheVariants.{NonCanonical}
 use Rattle.machine_state.specs.Memory.{Permissions, Memory, is_noncanonical, miss_in, miss_at, or_else, first_miss, bytes_at, written, number_at, number_bytes}
 use Rattle.machine_state.specs.State.{State}
-use Rattle.gpr_flags.specs.Registers.{with_register}
-use Rattle.gpr_flags.specs.declared.registers.TheConstants.{RAX, RSI}
+use Rattle.gpr_flags.specs.Registers.{RAX, RSI, with_register}
 use Rattle.machine_state.proofs.MemoryLemmas.{bytes_at_same}
 use Rattle.row_table.specs.declared.kinds.Row.{Row}
 use Rattle.row_table.specs.declared.kinds.Decoded.{Decoded}

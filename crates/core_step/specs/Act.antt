@@ -7,8 +7,7 @@ use Rattle.gpr_flags.specs.declared.kinds.Fault.{Fault}
 use Rattle.gpr_flags.specs.declared.kinds.Fault.TheVariants.{Undefined, General, Page}
 use Rattle.machine_state.specs.Memory.{first_miss, allowed_run, written, number_at, number_bytes}
 use Rattle.machine_state.specs.State.{State}
-use Rattle.gpr_flags.specs.Registers.{with_register}
-use Rattle.gpr_flags.specs.declared.registers.TheConstants.{RSP}
+use Rattle.gpr_flags.specs.Registers.{RSP, with_register}
 use Rattle.row_table.specs.declared.kinds.Row.{Row}
 use Rattle.row_table.specs.declared.kinds.Decoded.{Decoded}
 use Rattle.row_table.specs.Rows.{rows}

@@ -2,7 +2,7 @@
 use Rattle.std.specs.Prelude.{ℕ, ℤ, ◌+◌, ◌*◌, ◌/◌, ◌%◌, ◌^◌, ◌==◌, Bool, ◌&&◌, nat_lt, if◌then◌else◌, List, slice_index}
 use Rattle.std.specs.Option.{unwrap_or}
 use Rattle.std.specs.Int.{w64, cast_unsigned}
-use Rattle.gpr_flags.specs.declared.registers.TheConstants.{RSP}
+use Rattle.gpr_flags.specs.Registers.{RSP}
 use Rattle.row_table.specs.declared.kinds.Fields.{Fields}
 use Rattle.core_step.specs.declared.kinds.Bases.{Bases}
 

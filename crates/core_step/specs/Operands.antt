@@ -1,6 +1,6 @@
 -- An instruction with its operands found: which row it is, where its destination and its source are, and their sizes.
 use Rattle.std.specs.Prelude.{true, false, ℕ, ℤ, ◌+◌, ◌-◌, ◌*◌, ◌/◌, ◌%◌, ◌^◌, ◌==◌, ◌&&◌, Bool, not, nat_le, nat_lt, if◌then◌else◌, List, slice_index}
-use Rattle.gpr_flags.specs.declared.registers.TheConstants.{RAX, RCX, RDX, RSP, RBP, R11}
+use Rattle.gpr_flags.specs.Registers.{RAX, RCX, RDX, RSP, RBP, R11}
 use Rattle.gpr_flags.specs.Numbers.{is_negative}
 use Rattle.row_table.specs.declared.kinds.Operands.{Operands}
 use Rattle.row_table.specs.declared.kinds.Operands.TheVariants.{OpcodeReg, RaxOpcodeReg, OpcodeRegIb, OpcodeRegIv, Ib, Iw, Iz, Jb, Jz, AlIb, RaxIz, AlOb, RaxOv, ObAl, OvRax, Eb, Ev, EbGb, EvGv, GbEb, GvEv, GvEb, GvEw, GvEd, EbIb, EvIb, EvIz, EbOne, EvOne, EbCl, EvCl, GvEvIb, GvEvIz, EvGvIb, EvGvCl, GvM, MvGv, M}

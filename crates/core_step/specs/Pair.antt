@@ -4,8 +4,7 @@ use Rattle.byteorder.specs.Endian.{little_bytes}
 use Rattle.machine_state.specs.declared.kinds.Kind.TheVariants.{Write}
 use Rattle.machine_state.specs.Memory.{written, number_at}
 use Rattle.machine_state.specs.State.{State}
-use Rattle.gpr_flags.specs.Registers.{with_register}
-use Rattle.gpr_flags.specs.declared.registers.TheConstants.{RAX, RCX, RDX, RBX}
+use Rattle.gpr_flags.specs.Registers.{RAX, RCX, RDX, RBX, with_register}
 use Rattle.row_table.specs.declared.kinds.Row.{Row}
 use Rattle.row_table.specs.declared.kinds.Decoded.{Decoded}
 use Rattle.row_table.specs.declared.operations.Op.TheVariants.{Core}

@@ -2,7 +2,7 @@
 -- REP/REPE/REPZ/REPNE/REPNZ, and the pages of these instructions).
 use Rattle.std.specs.Prelude.{ℕ, ◌+◌, ◌-◌, ◌%◌, ◌^◌, ◌==◌, Bool, true, false, not, ◌&&◌, if◌then◌else◌, List, [], slice_index, slice_set}
 use Rattle.gpr_flags.specs.declared.kinds.Flags.{Flags}
-use Rattle.gpr_flags.specs.declared.registers.TheConstants.{RCX}
+use Rattle.gpr_flags.specs.Registers.{RCX}
 use Rattle.row_table.specs.declared.kinds.Row.{Row}
 use Rattle.row_table.specs.declared.kinds.Fields.{Fields}
 use Rattle.row_table.specs.declared.kinds.Decoded.{Decoded}

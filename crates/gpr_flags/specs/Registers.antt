@@ -1,5 +1,33 @@
--- What is written to a general register.
+-- The numbers of the general registers, and what is written to one.
 use Rattle.std.specs.Prelude.{ℕ, ◌+◌, ◌*◌, ◌/◌, ◌%◌, ◌^◌, ◌==◌, Bool, ◌||◌, nat_lt, if◌then◌else◌, List, slice_index, slice_set}
+
+-- the numbers of the general registers that instructions and system calls name by themselves (SDM volume 2, table 3-1)
+abbrev pub RAX : ℕ
+RAX = 0
+
+abbrev pub RCX : ℕ
+RCX = 1
+
+abbrev pub RDX : ℕ
+RDX = 2
+
+abbrev pub RBX : ℕ
+RBX = 3
+
+abbrev pub RSP : ℕ
+RSP = 4
+
+abbrev pub RBP : ℕ
+RBP = 5
+
+abbrev pub RSI : ℕ
+RSI = 6
+
+abbrev pub RDI : ℕ
+RDI = 7
+
+abbrev pub R11 : ℕ
+R11 = 11
 
 -- the sizes of operands in general registers, in bytes (SDM volume 1, 4.1)
 abbrev pub is_size : ℕ → Bool

@@ -2,8 +2,7 @@
 use Rattle.std.specs.Prelude.{ℕ, ◌+◌, ◌-◌, ◌*◌, ◌%◌, ◌^◌, Bool, true, false, if◌then◌else◌, List, [], ◌∷◌, Option, slice_index, slice_set}
 use Rattle.std.specs.Option.{option_map}
 use Rattle.gpr_flags.specs.declared.kinds.Flags.{Flags}
-use Rattle.gpr_flags.specs.Registers.{with_register}
-use Rattle.gpr_flags.specs.declared.registers.TheConstants.{RAX, RSI, RDI}
+use Rattle.gpr_flags.specs.Registers.{RAX, RSI, RDI, with_register}
 use Rattle.row_table.specs.declared.operations.Op.{Op}
 use Rattle.row_table.specs.declared.operations.Op.TheVariants.{String}
 use Rattle.row_table.specs.declared.operations.StringOp.{StringOp}

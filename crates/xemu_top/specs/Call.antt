@@ -1,6 +1,6 @@
 -- System calls: the number and the answer are in rax, the arguments in rdi, rsi and rdx (System V ABI for AMD64, A.2.1).
 use Rattle.std.specs.Prelude.{ℕ, ◌-◌, ◌%◌, ◌^◌, ◌==◌, ◌++◌, Bool, if◌then◌else◌, List, [], Option, Some, None, is_none, min, slice_index, slice_set}
-use Rattle.gpr_flags.specs.declared.registers.TheConstants.{RAX, RDX, RSI, RDI}
+use Rattle.gpr_flags.specs.Registers.{RAX, RDX, RSI, RDI}
 use Rattle.machine_state.specs.declared.kinds.Kind.TheVariants.{Read}
 use Rattle.machine_state.specs.declared.kinds.RunEnd.{RunEnd}
 use Rattle.machine_state.specs.declared.kinds.RunEnd.TheVariants.{Exit}
