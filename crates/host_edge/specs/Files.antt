@@ -1,6 +1,10 @@
 -- What a host does with files and swap pages: this program's own.
 use Rattle.std.specs.Prelude.{◌≡◌, ◌≢◌, ℕ, ◌+◌, ◌≤◌, ◌++◌, List, length, take, drop, Option, Some, is_some, Result, OnOk, OnErr, IfOk, nat_lt, if◌then◌else◌}
 
+-- the length of a page of the swap, in bytes
+abbrev pub page_len : ℕ
+page_len = 4096
+
 -- what a host holds: its files by their paths, and the pages of its swap by their numbers
 pub record Held : Type 0 where
   pub file : List ℕ → Option (List ℕ)

@@ -1,5 +1,5 @@
 -- What the forms over std do to the bytes of a reader or a writer, where those are known: this program's own.
-use Rattle.std.specs.Prelude.{ℕ, ◌≤◌, ◌<◌, List, length, take, Option, Result, OnOk, OnErr, IfOk}
+use Rattle.std.specs.Prelude.{ℕ, ◌≤◌, ◌<◌, List, length, take, ◌≡◌, Option, Some, IfSome, Result, OnOk, OnErr, IfOk}
 use Rattle.std.specs.Io.KnownBytes.{Appends, Consumes, IsAtEnd}
 use Rattle.host_edge.specs.declared.file_streams.FileSink.{FileSink}
 use Rattle.host_edge.specs.declared.file_streams.FileSource.{FileSource}
@@ -13,6 +13,22 @@ pub record Writes {E : Type 0} (old new : Option (List ℕ)) (bytes : List ℕ) 
 pub record Reads {E : Type 0} (old new : Option (List ℕ)) (into : List ℕ) (result : Result ℕ E) : Type 0 where
   pub front : IfOk result (λ count. Consumes old new (take count into))
   pub ended : IfOk result (λ count. count < length into → IsAtEnd new)
+
+-- a position that is known is this one
+abbrev pub StandsAt : Option ℕ → Option ℕ → ℕ → Type 0
+StandsAt old new place = IfSome old (λ position. new ≡ Some place)
+
+-- the stream went to a place, and then these bytes were read
+pub record ReadsAt {F : Type 0} (position : F → Option ℕ) (remaining : F → Option (List ℕ)) (old new : F) (place : ℕ) (bytes : List ℕ) : Type 0 where
+  pub between : F
+  pub moved : StandsAt (position old) (position between) place
+  pub read : Consumes (remaining between) (remaining new) bytes
+
+-- the stream went to a place, and then these bytes were written
+pub record WritesAt {F : Type 0} (position : F → Option ℕ) (contents : F → Option (List ℕ)) (old new : F) (place : ℕ) (bytes : List ℕ) : Type 0 where
+  pub between : F
+  pub moved : StandsAt (position old) (position between) place
+  pub written : Appends (contents between) (contents new) bytes
 
 -- what a source reads
 abbrev pub reader_of : {R : Type 0} → FileSource R → R

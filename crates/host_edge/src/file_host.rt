@@ -1,13 +1,14 @@
 // A host over the files of a runtime.
-ghost use Rattle.std.specs.Prelude.{◌≡◌, ◌+◌, ◌≤◌, IfOk, drop, length};
-ghost use Rattle.host_edge.specs.Causes.{no_faults};
+ghost use Rattle.std.specs.Prelude.{◌≡◌, ◌+◌, ◌<◌, ◌≤◌, IfOk, OnErr, OnOk, drop, length};
+ghost use Rattle.host_edge.specs.Causes.{HasCause, no_faults};
+ghost use Rattle.host_edge.specs.Files.{OpenMeets};
 ghost use Rattle.host_edge.specs.Faults.{IsCounted};
 
 use crate::counts::{Faults, fault};
-use crate::transfers::{read_front, write_whole};
+use crate::transfers::{read_file, read_page, write_page, write_whole};
 use crate::{Failed, Host, PAGE};
 use std::fs::{File, OpenFile, OpenOptions};
-use std::io::{self, Read, Seek, SeekFrom, Write};
+use std::io;
 use std::rt::Files;
 
 /// A host over the files of a runtime, whose swap is a file with one page behind the other. It tells no bytes, and each
@@ -36,19 +37,12 @@ impl<R: Files> FileHost<R> {
     }
 }
 
-// Reads a file to the front of a buffer, whose rest stays, and answers its length, or one more than the buffer's.
 fn load_file<R: Files>(rt: &R, path: &str, into: &mut [u8]) -> io::Result<u64>
     ensures fits { IfOk result (λ len. len ≤ length into.old + 1) }
     ensures rest { IfOk result (λ len. drop len into.new ≡ drop len into.old) }
 {
     let mut file = File::open(rt, path)?;
-    let count = read_front(&mut file, into)?;
-    if count < into.len() {
-        return Ok(count as u64);
-    }
-    let mut more = [0];
-    let behind = file.read(&mut more)?;
-    Ok(count as u64 + behind as u64)
+    read_file(&mut file, into)
 }
 
 fn store_file<R: Files>(rt: &R, path: &str, bytes: &[u8]) -> io::Result<()> {
@@ -66,24 +60,6 @@ fn open_swap<R: Files>(rt: &R, path: &str, pages: u32) -> io::Result<R::File> {
         .open(rt, path)?;
     file.set_len(u64::from(pages) * PAGE as u64)?;
     Ok(file)
-}
-
-fn seek_page<F: Seek>(file: &mut F, page: u32) -> io::Result<u64> {
-    file.seek(SeekFrom::Start(u64::from(page) * PAGE as u64))
-}
-
-fn read_page<F: Read + Seek>(file: &mut F, page: u32, into: &mut [u8]) -> io::Result<()> {
-    seek_page(file, page)?;
-    let count = read_front(file, into)?;
-    if count < into.len() {
-        return Err(io::ErrorKind::UnexpectedEof.into());
-    }
-    Ok(())
-}
-
-fn write_page<F: Write + Seek>(file: &mut F, page: u32, from: &[u8]) -> io::Result<()> {
-    seek_page(file, page)?;
-    write_whole(file, from)
 }
 
 impl<R: Files> Host for FileHost<R> {
@@ -111,7 +87,15 @@ impl<R: Files> Host for FileHost<R> {
     }
 
     /// Makes the file anew, in place of what was there. Where that fails, no swap is open.
-    fn swap_open(&mut self, path: &str, pages: u32) -> Result<(), Failed> {
+    fn swap_open(&mut self, path: &str, pages: u32) -> Result<(), Failed>
+        requires { 0 < pages }
+        ensures files { OpenMeets None None }
+        ensures opened { OnOk result (self.new.opened ≡ pages) }
+        ensures cause { HasCause self.old.faults.swap_open self.new.faults.swap_open result }
+        ensures others { counts_of self.new.faults
+            ≡ record (counts_of self.old.faults) { swap_open = self.new.faults.swap_open } }
+        ensures failed { OnErr result (self.new.opened ≡ 0) }
+    {
         self.swap = None;
         self.opened = 0;
         match open_swap(&self.rt, path, pages) {

@@ -1,7 +1,7 @@
 // A host in memory.
 ghost use Rattle.std.specs.Prelude.{◌≡◌, ◌<◌, IfOk, IsTrue, OnErr, OnOk, is_err, length, map};
 ghost use Rattle.host_edge.specs.Causes.{HasCause, raised};
-ghost use Rattle.host_edge.specs.Files.{GetMeets, LoadMeets, OpenMeets, PutMeets, StoreMeets};
+ghost use Rattle.host_edge.specs.Files.{GetMeets, LoadMeets, OpenMeets, PutMeets, StoreMeets, page_len};
 ghost use Rattle.host_edge.specs.MemHost.{after_call, held_by, load_fails, new_host, next_is_listed, open_fails, store_fails, with_page};
 ghost use Rattle.host_edge.specs.NamedFiles.{fits_in, named, stored};
 
@@ -97,6 +97,7 @@ impl Host for MemHost {
         ensures failed { OnErr result (self.new ≡ record (after_call self.old) {
           faults = record self.old.faults { load = raised self.old.faults.load };
         }) }
+        ensures into_kept { OnErr result (into.new ≡ into.old) }
     {
         if next_fails(&mut self.calls, &self.fail) {
             return Err(fault(&mut self.faults.load));
@@ -154,7 +155,7 @@ impl Host for MemHost {
 
     fn swap_get(&mut self, page: u32, into: &mut [u8]) -> Result<(), Failed>
         requires is_opened { page < self.old.opened }
-        requires is_page { length into.old ≡ PAGE }
+        requires is_page { length into.old ≡ page_len }
         ensures files { GetMeets (Some (held_by self.old)) (Some (held_by self.new))
             page into.new result }
         ensures opened { self.new.opened ≡ self.old.opened }
@@ -168,6 +169,7 @@ impl Host for MemHost {
         ensures failed { OnErr result (self.new ≡ record (after_call self.old) {
           faults = record self.old.faults { swap_get = raised self.old.faults.swap_get };
         }) }
+        ensures into_kept { OnErr result (into.new ≡ into.old) }
     {
         if next_fails(&mut self.calls, &self.fail) {
             return Err(fault(&mut self.faults.swap_get));
@@ -178,7 +180,7 @@ impl Host for MemHost {
 
     fn swap_put(&mut self, page: u32, from: &[u8]) -> Result<(), Failed>
         requires is_opened { page < self.old.opened }
-        requires is_page { length from.now ≡ PAGE }
+        requires is_page { length from.now ≡ page_len }
         ensures files { PutMeets (Some (held_by self.old)) (Some (held_by self.new))
             page from.now result }
         ensures opened { self.new.opened ≡ self.old.opened }

@@ -81,6 +81,7 @@ impl Source for MemSource {
         // It fails exactly where the call's number is listed.
         ensures fails { is_err result ≡ is_listed self.old.fail (raised self.old.calls) }
         ensures failed { OnErr result (self.new ≡ after_failed_take self.old) }
+        ensures into_kept { OnErr result (into.new ≡ into.old) }
         ensures count { IfOk result (λ count. count ≡ count_given self.old (length into.old)) }
         ensures given { IfOk result (λ count. self.new ≡ after_take self.old count) }
     {

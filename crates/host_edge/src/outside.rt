@@ -2,7 +2,7 @@
 ghost use Rattle.std.specs.Prelude.{◌≡◌, ◌<◌, ℕ, List, Option, OnOk, length};
 ghost use Rattle.host_edge.specs.Causes.{HasCause, Counts};
 ghost use Rattle.host_edge.specs.Streams.{Puts, Takes};
-ghost use Rattle.host_edge.specs.Files.{Held, LoadMeets, StoreMeets, OpenMeets, GetMeets, PutMeets};
+ghost use Rattle.host_edge.specs.Files.{Held, page_len, LoadMeets, StoreMeets, OpenMeets, GetMeets, PutMeets};
 
 /// The length of a page of the swap, in bytes.
 pub const PAGE: usize = 4096;
@@ -10,6 +10,20 @@ pub const PAGE: usize = 4096;
 /// A call of the outside that failed. The object counts it.
 #[derive(Clone, Copy, Debug, PartialEq, Eq)]
 pub struct Failed;
+
+/// A call of the outside, as an end names it where that call failed. The number in `Load` and `Store` is the index of
+/// the command line's word that holds the path.
+#[derive(Clone, Copy, Debug, PartialEq, Eq)]
+pub enum HostCall {
+    Load(u32),
+    Store(u32),
+    SwapOpen,
+    SwapGet,
+    SwapPut,
+    Take,
+    PutOut,
+    PutErr,
+}
 
 /// Bytes that come in.
 pub trait Source {
@@ -78,7 +92,7 @@ pub trait Host {
     /// Copies a page of the swap into `into`, whose length is a page's.
     fn swap_get(&mut self, page: u32, into: &mut [u8]) -> Result<(), Failed>
         requires is_opened { page < opened self.old }
-        requires is_page { length into.old ≡ PAGE }
+        requires is_page { length into.old ≡ page_len }
         ensures files { GetMeets (holds self.old) (holds self.new) page into.new result }
         ensures opened { opened self.new ≡ opened self.old }
         ensures cause { HasCause (faults self.old).swap_get (faults self.new).swap_get result }
@@ -88,7 +102,7 @@ pub trait Host {
     /// Makes a page of the swap these bytes, whose length is a page's. Where it fails, that page may be anything.
     fn swap_put(&mut self, page: u32, from: &[u8]) -> Result<(), Failed>
         requires is_opened { page < opened self.old }
-        requires is_page { length from.now ≡ PAGE }
+        requires is_page { length from.now ≡ page_len }
         ensures files { PutMeets (holds self.old) (holds self.new) page from.now result }
         ensures opened { opened self.new ≡ opened self.old }
         ensures cause { HasCause (faults self.old).swap_put (faults self.new).swap_put result }

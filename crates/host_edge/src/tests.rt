@@ -1,5 +1,6 @@
 // What the contracts leave open: that calls succeed, and what files of the system give back.
 ghost use Rattle.std.specs.Prelude.{◌≡◌, ◌<◌, IfOk, IsTrue, OnOk, length, map, vec_len};
+ghost use Rattle.host_edge.specs.Files.{page_len};
 ghost use Rattle.host_edge.specs.NamedFiles.{fits_in, named};
 
 use crate::bytes::zeros;
@@ -57,7 +58,7 @@ fn file(alloc: Global, path: &str, bytes: &[u8]) -> Result<(String, Vec<u8>), Al
 
 // A page of one byte all over.
 fn page_of(alloc: Global, byte: u8) -> Result<Vec<u8>, AllocError>
-    ensures { IfOk result (λ page. vec_len page ≡ PAGE) }
+    ensures { IfOk result (λ page. vec_len page ≡ page_len) }
 {
     let mut page = zeros(alloc, PAGE)?;
     for place in page.iter_mut() {
@@ -98,7 +99,7 @@ fn open<H: Host>(host: &mut H, path: &str) -> Result<(), Failed>
 
 fn put<H: Host>(host: &mut H, page: u32, from: &[u8]) -> Result<(), Failed>
     requires is_opened { page < H.opened host.old }
-    requires is_page { length from.now ≡ PAGE }
+    requires is_page { length from.now ≡ page_len }
     ensures { H.opened host.new ≡ H.opened host.old }
 {
     host.swap_put(page, from)
@@ -106,7 +107,7 @@ fn put<H: Host>(host: &mut H, page: u32, from: &[u8]) -> Result<(), Failed>
 
 fn get<H: Host>(host: &mut H, page: u32, into: &mut [u8]) -> Result<(), Failed>
     requires is_opened { page < H.opened host.old }
-    requires is_page { length into.old ≡ PAGE }
+    requires is_page { length into.old ≡ page_len }
     ensures { H.opened host.new ≡ H.opened host.old }
 {
     host.swap_get(page, into)

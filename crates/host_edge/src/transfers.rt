@@ -1,10 +1,12 @@
 // Loops over the reads and writes of std, each of which may move only a part.
-ghost use Rattle.std.specs.Prelude.{◌≡◌, ◌≤◌, IfOk, drop, length};
-ghost use Rattle.std.specs.Io.KnownBytes.{ReadConsumes};
-ghost use Rattle.host_edge.specs.Moves.{Reads, Writes};
+ghost use Rattle.std.specs.Prelude.{◌≡◌, ◌+◌, ◌*◌, ◌≤◌, IfOk, IfSome, OnOk, drop, length};
+ghost use Rattle.std.specs.Io.KnownBytes.{Consumes, ReadConsumes};
+ghost use Rattle.std.specs.Io.Seek.{MovesTo};
+ghost use Rattle.host_edge.specs.Files.{Loads, page_len};
+ghost use Rattle.host_edge.specs.Moves.{Reads, ReadsAt, Writes, WritesAt};
 
 use crate::PAGE;
-use std::io::{self, Read, Write};
+use std::io::{self, Read, Seek, SeekFrom, Write};
 
 /// Reads once, at most a page, to the front of a buffer whose rest stays, and answers how many bytes came, 0 only at the
 /// end or where the buffer is empty.
@@ -37,6 +39,34 @@ pub fn read_front<R: Read>(reader: &mut R, into: &mut [u8]) -> io::Result<usize>
     Ok(count)
 }
 
+/// Reads a whole file to the front of a buffer, whose rest stays, and answers its length, or one more than the buffer's
+/// where the file is longer.
+pub fn read_file<R: Read>(reader: &mut R, into: &mut [u8]) -> io::Result<u64>
+    ensures fits { IfOk result (λ len. len ≤ length into.old + 1) }
+    ensures rest { IfOk result (λ len. drop len into.new ≡ drop len into.old) }
+    ensures loads { IfOk result (λ len. IfSome (R.remaining reader.old)
+        (λ file. Loads file into.old into.new len)) }
+{
+    let count = read_front(reader, into)?;
+    if count < into.len() {
+        return Ok(count as u64);
+    }
+    let mut more = [0];
+    let behind = reader.read(&mut more)?;
+    Ok(count as u64 + behind as u64)
+}
+
+/// Reads a buffer full. A reader that ends before is an error.
+pub fn fill<R: Read>(reader: &mut R, into: &mut [u8]) -> io::Result<()>
+    ensures { OnOk result (Consumes (R.remaining reader.old) (R.remaining reader.new) into.new) }
+{
+    let count = read_front(reader, into)?;
+    if count < into.len() {
+        return Err(io::ErrorKind::UnexpectedEof.into());
+    }
+    Ok(())
+}
+
 /// Writes all the bytes and flushes the writer. A write that takes none of them is an error, and an error leaves a prefix
 /// written.
 pub fn write_whole<W: Write>(writer: &mut W, bytes: &[u8]) -> io::Result<()>
@@ -51,4 +81,31 @@ pub fn write_whole<W: Write>(writer: &mut W, bytes: &[u8]) -> io::Result<()>
         }
     }
     writer.flush()
+}
+
+/// Goes to where a page starts.
+fn seek_page<F: Seek>(file: &mut F, page: u32) -> io::Result<u64>
+    ensures { MovesTo (F.stream_position file.old) (F.stream_position file.new) (page * page_len) result }
+{
+    file.seek(SeekFrom::Start(u64::from(page) * PAGE as u64))
+}
+
+/// Reads a page of a file.
+pub fn read_page<F: Read + Seek>(file: &mut F, page: u32, into: &mut [u8]) -> io::Result<()>
+    ensures { OnOk result (ReadsAt F.stream_position F.remaining file.old file.new (page * page_len) into.new) }
+{
+    match seek_page(file, page) {
+        Ok(_) => fill(file, into),
+        Err(error) => Err(error),
+    }
+}
+
+/// Writes a page of a file.
+pub fn write_page<F: Write + Seek>(file: &mut F, page: u32, from: &[u8]) -> io::Result<()>
+    ensures { OnOk result (WritesAt F.stream_position F.contents file.old file.new (page * page_len) from.now) }
+{
+    match seek_page(file, page) {
+        Ok(_) => write_whole(file, from),
+        Err(error) => Err(error),
+    }
 }

@@ -37,29 +37,11 @@ pub struct Stop {
     pub miss: Miss,
 }
 
-/// A call on the outside, as an end names it when that call failed. The number in `Load` and `Store` is the index of
-/// the command line's word that holds the path.
+/// How a guest ends.
 #[derive(Clone, Copy, Debug, PartialEq, Eq)]
-pub enum HostCall {
-    Load(u32),
-    Store(u32),
-    SwapOpen,
-    SwapGet,
-    SwapPut,
-    Take,
-    PutOut,
-    PutErr,
-}
-
-/// How a run ended.
-#[derive(Clone, Copy, Debug, PartialEq, Eq)]
-pub enum RunEnd {
-    /// The guest exited with this status.
+pub enum GuestEnd {
+    /// It exited with this status.
     Exit(u8),
-    /// The guest was killed by this signal.
+    /// It was killed by this signal.
     Killed(u8),
-    /// The guest was still running when its budget of steps was used.
-    Budget,
-    /// A call on the outside failed.
-    Host(HostCall),
 }

@@ -5,5 +5,5 @@
 mod kinds;
 mod permissions;
 
-pub use kinds::{Access, HostCall, Kind, Miss, RunEnd, Stop};
+pub use kinds::{Access, GuestEnd, Kind, Miss, Stop};
 pub use permissions::Perms;

@@ -50,7 +50,7 @@ stream_of-some (Some (Opened file)) stream h = cc
 stream_of-some None stream h = cc
 
 -- a write by its arguments
-pub write_call-is : (base : World) (s : State) (out err : Option (List ℕ)) (number addr count most : ℕ) (descriptor : Option Descriptor)
+pub write_call-is : (base : World) (s : State) (out err : List ℕ) (number addr count most : ℕ) (descriptor : Option Descriptor)
     → base.descriptors ≡ first_descriptors → number ≡ rdi s → first_descriptors (number % 2 ^ 32) ≡ descriptor → addr ≡ rsi s
     → most ≡ rdx s → count ≡ min most longest_transfer
     → write_to descriptor addr count (world_at base s out err) ≡ write_call (world_at base s out err)

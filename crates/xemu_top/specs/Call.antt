@@ -2,8 +2,8 @@
 use Rattle.std.specs.Prelude.{ℕ, ◌-◌, ◌%◌, ◌^◌, ◌==◌, ◌++◌, Bool, if◌then◌else◌, List, [], Option, Some, None, is_none, min, slice_index, slice_set}
 use Rattle.gpr_flags.specs.Registers.{RAX, RDX, RSI, RDI}
 use Rattle.machine_state.specs.declared.kinds.Kind.TheVariants.{Read}
-use Rattle.machine_state.specs.declared.kinds.RunEnd.{RunEnd}
-use Rattle.machine_state.specs.declared.kinds.RunEnd.TheVariants.{Exit}
+use Rattle.machine_state.specs.declared.kinds.GuestEnd.{GuestEnd}
+use Rattle.machine_state.specs.declared.kinds.GuestEnd.TheVariants.{Exit}
 use Rattle.machine_state.specs.Memory.{Memory, first_miss, bytes_at}
 use Rattle.machine_state.specs.State.{State}
 use Rattle.machine_state.specs.World.{World, Descriptor, Input, Output, ErrorOutput, Opened}
@@ -11,12 +11,12 @@ use Rattle.machine_state.specs.World.{World, Descriptor, Input, Output, ErrorOut
 -- the world after a piece of work, and the guest's end, where it has ended
 pub record Ran : Type 0 where
   pub world : World
-  pub end : Option RunEnd
+  pub end : Option GuestEnd
 
 abbrev pub goes_on : World → Ran
 goes_on w = record { world = w; end = None }
 
-abbrev pub ends : RunEnd → World → Ran
+abbrev pub ends : GuestEnd → World → Ran
 ends end w = record { world = w; end = Some end }
 
 -- the registers of a call

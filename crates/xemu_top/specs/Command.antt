@@ -3,9 +3,9 @@ use Rattle.std.specs.Prelude.{◌≡◌, ℕ, ◌+◌, ◌-◌, ◌*◌, ◌/◌
 use Rattle.std.specs.Cmp.Lexicographic.{pointwise}
 use Rattle.std.specs.List.{list_any, starts_with}
 use Rattle.byteorder.specs.Endian.{little_number}
-use Rattle.machine_state.specs.declared.kinds.RunEnd.{RunEnd}
-use Rattle.machine_state.specs.declared.kinds.HostCall.{HostCall}
-use Rattle.machine_state.specs.declared.kinds.HostCall.TheVariants.{Load, Store, SwapOpen, SwapGet, SwapPut, Take, PutOut, PutErr}
+use Rattle.machine_state.specs.declared.kinds.GuestEnd.{GuestEnd}
+use Rattle.host_edge.specs.declared.outside.HostCall.{HostCall}
+use Rattle.host_edge.specs.declared.outside.HostCall.TheVariants.{Load, Store, SwapOpen, SwapGet, SwapPut, Take, PutOut, PutErr}
 use Rattle.machine_state.specs.Memory.{Memory}
 use Rattle.gpr_flags.specs.Flags.{no_flags}
 use Rattle.machine_state.specs.State.{State, initial_extended}
@@ -14,6 +14,25 @@ use Rattle.xemu_top.specs.declared.ends.End.{End}
 use Rattle.xemu_top.specs.declared.ends.End.TheVariants.{Exit, Killed, Budget, Words, Image, Host, Memory as NoMemory}
 use Rattle.xemu_top.specs.Call.{Ran}
 use Rattle.xemu_top.specs.Run.{run, Files, Outside, outside, MayStand}
+
+-- the budget of steps, where the command line names none
+abbrev pub default_budget : ℕ
+default_budget = 1000000000000
+
+-- the limits on mapped pages and on the bytes of a guest file, likewise
+abbrev pub default_pages : ℕ
+default_pages = 16384
+
+abbrev pub default_cap : ℕ
+default_cap = 16777216
+
+-- the most bytes of a program file
+abbrev pub longest_image : ℕ
+longest_image = 67108864
+
+-- where an image stands
+abbrev pub image_base : ℕ
+image_base = 4194304
 
 -- a path: it has a byte, doesn't begin with `--` and has no byte 0
 abbrev pub path_fits : List ℕ → Bool
@@ -60,7 +79,7 @@ sizes_fit bytes = number_from bytes 96 == length bytes && number_from bytes 104 
 
 -- the one form of image so far: that header, the whole file as its one segment, and at least one byte of code
 unfoldable pub image_fits : List ℕ → Bool
-image_fits bytes = nat_le 121 (length bytes) && nat_le (length bytes) 67108864 && header_fits bytes && sizes_fit bytes
+image_fits bytes = nat_le 121 (length bytes) && nat_le (length bytes) longest_image && header_fits bytes && sizes_fit bytes
 
 unfoldable pub entry_of : List ℕ → ℕ
 entry_of bytes = number_from bytes 24
@@ -77,7 +96,7 @@ in_image count page = nat_le 1024 page && nat_lt page (1024 + count)
 unfoldable pub image_memory : List ℕ → Memory
 image_memory bytes = record {
   perms = λ page. if in_image (page_count (length bytes)) page then Some 5 else None;
-  byte = λ addr. if nat_le 4194304 addr then slice_index bytes (addr - 4194304) else 0;
+  byte = λ addr. if nat_le image_base addr then slice_index bytes (addr - image_base) else 0;
 }
 
 -- all registers are 0 but rip, which is the entry
@@ -97,11 +116,11 @@ first_state bytes = record {
 unfoldable pub first_world : List ℕ → Outside → World
 first_world bytes on = record {
   state = first_state bytes;
-  pages = 16384;
-  cap = 16777216;
+  pages = default_pages;
+  cap = default_cap;
   of_file = in_image (page_count (length bytes));
-  heap_start = 4194304 + 4096 * page_count (length bytes);
-  break_at = 4194304 + 4096 * page_count (length bytes);
+  heap_start = image_base + 4096 * page_count (length bytes);
+  break_at = image_base + 4096 * page_count (length bytes);
   actions = λ signal. default_action;
   blocked = 0;
   alternate = no_alternate;
@@ -119,28 +138,30 @@ pub record Outcome : Type 0 where
   pub machine : Option State
   pub outside : Outside
 
+-- the refusals of words and of images: one each so far
+abbrev pub no_command : End
+no_command = Words (record { word = 0; kind = 15 })
+
+abbrev pub no_image : End
+no_image = Image (record { number = 15; place = 0 })
+
 abbrev pub refused : End → Outside → Outcome
 refused end on = record { end = end; machine = None; outside = on }
 
-abbrev pub end_from : RunEnd → End
-end_from (RunEnd.Exit code) = Exit code
-end_from (RunEnd.Killed signal) = Killed signal
-end_from RunEnd.Budget = Budget
-end_from (RunEnd.Host call) = Host call
-
--- a run that didn't end has used its budget
-abbrev pub end_of : Option RunEnd → RunEnd
-end_of None = RunEnd.Budget
-end_of (Some end) = end
+-- a guest that didn't end has used its budget
+abbrev pub end_of : Option GuestEnd → End
+end_of None = Budget
+end_of (Some (GuestEnd.Exit code)) = Exit code
+end_of (Some (GuestEnd.Killed signal)) = Killed signal
 
 abbrev pub ran : Files → Ran → Outcome
 ran files after =
-    record { end = end_from (end_of after.end); machine = Some after.world.state; outside = outside files after.world }
+    record { end = end_of after.end; machine = Some after.world.state; outside = outside files after.world }
 
 abbrev pub on_image : ℕ → List ℕ → Outside → Outcome
 on_image budget bytes on =
     if image_fits bytes then ran on.files (run (first_world bytes on) budget)
-    else refused (Image (record { number = 15; place = 0 })) on
+    else refused no_image on
 
 abbrev pub on_file : ℕ → Option (List ℕ) → Outside → Outcome
 on_file budget None on = refused (Host (Load 1)) on
@@ -151,24 +172,32 @@ on_file budget (Some bytes) on = on_image budget bytes on
 unfoldable pub command : ℕ → List (List ℕ) → Outside → Outcome
 command budget words on =
     if words_fit words then on_file budget (on.files (path_word words)) on
-    else refused (Words (record { word = 0; kind = 15 })) on
+    else refused no_command on
 
--- what may stand where a call failed while the file's steps run
-abbrev pub StandsOnFile : ℕ → Option (List ℕ) → Outside → Outside → Type 0
-StandsOnFile budget None on now = ⊥
-StandsOnFile budget (Some bytes) on now = IsTrue (image_fits bytes) × MayStand on.files (first_world bytes on) budget now
+-- what may stand where a put failed while an image's steps run
+abbrev pub StandsOnImage : ℕ → List ℕ → Outside → Outside → Type 0
+StandsOnImage budget bytes on now = IsTrue (image_fits bytes) × MayStand on.files (first_world bytes on) budget now
+
+-- the same of the program's file, where the host has it
+abbrev pub StandsInRun : ℕ → Option (List ℕ) → Outside → Outside → Type 0
+StandsInRun budget None on now = ⊥
+StandsInRun budget (Some bytes) on now = StandsOnImage budget bytes on now
 
 -- what may stand where a call failed: where the program's load did, all is as it was; where a put did, it was in a step.
 -- No other call is made
+abbrev pub StandsOnFile : HostCall → ℕ → Option (List ℕ) → Outside → Outside → Type 0
+StandsOnFile (Load word) budget file on now = (word ≡ 1) × (now ≡ on)
+StandsOnFile PutOut budget file on now = StandsInRun budget file on now
+StandsOnFile PutErr budget file on now = StandsInRun budget file on now
+StandsOnFile (Store word) budget file on now = ⊥
+StandsOnFile SwapOpen budget file on now = ⊥
+StandsOnFile SwapGet budget file on now = ⊥
+StandsOnFile SwapPut budget file on now = ⊥
+StandsOnFile Take budget file on now = ⊥
+
+-- the same of a command: only words that fit lead to a call
 abbrev pub StandsAt : HostCall → ℕ → List (List ℕ) → Outside → Outside → Type 0
-StandsAt (Load word) budget words on now = (word ≡ 1) × IsTrue (words_fit words) × (now ≡ on)
-StandsAt PutOut budget words on now = IsTrue (words_fit words) × StandsOnFile budget (on.files (path_word words)) on now
-StandsAt PutErr budget words on now = IsTrue (words_fit words) × StandsOnFile budget (on.files (path_word words)) on now
-StandsAt (Store word) budget words on now = ⊥
-StandsAt SwapOpen budget words on now = ⊥
-StandsAt SwapGet budget words on now = ⊥
-StandsAt SwapPut budget words on now = ⊥
-StandsAt Take budget words on now = ⊥
+StandsAt call budget words on now = IsTrue (words_fit words) × StandsOnFile call budget (on.files (path_word words)) on now
 
 -- the exit status of an end (128 and the signal for a guest that was killed, as a shell has it)
 abbrev pub status_of : End → ℕ
@@ -184,6 +213,3 @@ status_of NoMemory = 71
 abbrev pub HasSignal : End → Type 0
 HasSignal (Killed signal) = signal ≤ 64
 HasSignal other = Unit {0}
-
-abbrev pub HasRunSignal : RunEnd → Type 0
-HasRunSignal end = HasSignal (end_from end)

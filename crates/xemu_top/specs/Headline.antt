@@ -1,20 +1,22 @@
 -- The headline: a run of the command is the written machine's run. And the cause of each end.
-use Rattle.std.specs.Prelude.{◌≡◌, ℕ, Bool, true, false, List, Option, Some, None, IsTrue, ◌⊎◌}
-use Rattle.machine_state.specs.declared.kinds.HostCall.{HostCall}
-use Rattle.machine_state.specs.declared.kinds.RunEnd.{RunEnd}
-use Rattle.machine_state.specs.declared.kinds.HostCall.TheVariants.{Load, Store, SwapOpen, SwapGet, SwapPut, Take, PutOut, PutErr}
+use Rattle.std.specs.Prelude.{◌≡◌, ℕ, ◌<◌, ◌^◌, Bool, true, false, List, Option, Some, None, IfSome, IsTrue}
+use Rattle.host_edge.specs.declared.outside.HostCall.{HostCall}
+use Rattle.host_edge.specs.declared.outside.HostCall.TheVariants.{Load, Store, SwapOpen, SwapGet, SwapPut, Take, PutOut, PutErr}
 use Rattle.machine_state.specs.Memory.{Swap}
 use Rattle.machine_state.specs.State.{State}
 use Rattle.host_edge.specs.Causes.{Rose, Counts}
-use Rattle.host_edge.specs.Streams.{told}
 use Rattle.host_edge.specs.Files.{Held}
 use Rattle.core_step.specs.declared.machine.Machine.{Machine}
 use Rattle.core_step.specs.Machine.{state_of}
 use Rattle.xemu_top.specs.declared.ends.End.{End}
 use Rattle.xemu_top.specs.declared.ends.End.TheVariants.{Exit, Killed, Budget, Words, Image, Host, Memory}
 use Rattle.xemu_top.specs.declared.ends.Ended.{Ended}
-use Rattle.xemu_top.specs.Run.{Files, Outside, MayStand}
-use Rattle.xemu_top.specs.Command.{Outcome, command, on_image, StandsAt, first_world, image_fits, status_of, end_from}
+use Rattle.xemu_top.specs.declared.ends.RunEnd.{RunEnd}
+use Rattle.xemu_top.specs.Run.{Files, Outside}
+use Rattle.xemu_top.specs.declared.loading.Loaded.{Loaded}
+use Rattle.xemu_top.specs.declared.loading.Loaded.TheVariants.{Whole, Long, Failed}
+use Rattle.xemu_top.specs.Command.{Outcome, command, on_file, on_image, StandsAt, StandsOnFile, StandsOnImage, image_fits, no_command, no_image, status_of}
+use Rattle.xemu_top.specs.Following.{IsTold, IsCaused, end_from}
 
 -- whether an end is the command's own, and no failure of the outside and no want of memory
 abbrev pub is_own : End → Bool
@@ -27,9 +29,12 @@ abbrev pub files_of : Option Held → Files
 files_of None = λ path. None
 files_of (Some held) = held.file
 
--- the outside as it is told: a host's files, a source's bytes, what two sinks were given
-abbrev pub outside_told : Option Held → Option (List ℕ) → Option (List ℕ) → Option (List ℕ) → Outside
-outside_told held left out err = record { files = files_of held; left = told left; out = told out; err = told err }
+-- what stands on the outside, as far as a host tells its files, a source its bytes, and two sinks what they were given
+pub record IsOutside (held : Option Held) (left out err : Option (List ℕ)) (on : Outside) : Type 0 where
+  pub files_are : IfSome held (λ held. on.files ≡ held.file)
+  pub left_is : IsTold left on.left
+  pub out_is : IsTold out on.out
+  pub err_is : IsTold err on.err
 
 -- the state that a machine stands for, where the swap holds this
 abbrev pub state_left : Option Machine → Swap → Option State
@@ -37,23 +42,43 @@ state_left None w = None
 state_left (Some machine) w = Some (state_of machine w)
 
 -- the command ended as the written one does, and left its machine, whatever the swap holds, and its outside
-pub record Gives (outcome : Outcome) (ended : Ended) (now : Outside) : Type 0 where
+pub record Gives (outcome : Outcome) (ended : Ended) (Stands : Outside → Type 0) : Type 0 where
   pub end : ended.end ≡ outcome.end
   pub machine : (w : Swap) → state_left ended.machine w ≡ outcome.machine
-  pub outside_is : now ≡ outcome.outside
+  pub outside_is : Stands outcome.outside
 
--- the headline: a command that ends by itself gives what the written one gives; where a call on the outside failed, what
--- stands is what the written one leaves on the way to its end; where memory was wanting, nothing was done
-pub record Meets (budget : ℕ) (words : List (List ℕ)) (on : Outside) (ended : Ended) (now : Outside) : Type 0 where
-  pub gives : IsTrue (is_own ended.end) → Gives (command budget words on) ended now
-  pub stands : (call : HostCall) → ended.end ≡ Host call → StandsAt call budget words on now
-  pub nothing : ended.end ≡ Memory → now ≡ on
+-- something of this kind stands on the outside
+pub record Leaves (Stands May : Outside → Type 0) : Type 0 where
+  pub now : Outside
+  pub stands : Stands now
+  pub may : May now
 
--- the same from the image on
-pub record MeetsImage (budget : ℕ) (bytes : List ℕ) (on : Outside) (ended : Ended) (now : Outside) : Type 0 where
-  pub gives : IsTrue (is_own ended.end) → Gives (on_image budget bytes on) ended now
-  pub stands : (call : HostCall) → ended.end ≡ Host call → IsTrue (image_fits bytes) × MayStand on.files (first_world bytes on) budget now
-  pub nothing : ended.end ≡ Memory → now ≡ on
+-- the headline, with what then stands on the outside, as far as that is told: a command that ends by itself gives what the
+-- written one gives; where a call on the outside failed, what stands is what the written one leaves on the way to its end;
+-- where memory was wanting, nothing was done
+pub record Meets (budget : ℕ) (words : List (List ℕ)) (on : Outside) (ended : Ended) (Stands : Outside → Type 0) : Type 0 where
+  pub gives : IsTrue (is_own ended.end) → Gives (command budget words on) ended Stands
+  pub stands : (call : HostCall) → ended.end ≡ Host call → Leaves Stands (StandsAt call budget words on)
+  pub nothing : ended.end ≡ Memory → Stands on
+
+-- the same from what a load found
+pub record MeetsFile (budget : ℕ) (file : Option (List ℕ)) (on : Outside) (ended : Ended) (Stands : Outside → Type 0) : Type 0 where
+  pub gives : IsTrue (is_own ended.end) → Gives (on_file budget file on) ended Stands
+  pub stands : (call : HostCall) → ended.end ≡ Host call → Leaves Stands (StandsOnFile call budget file on)
+  pub nothing : ended.end ≡ Memory → Stands on
+
+-- the same from an image on, where no call is made but a put
+pub record MeetsImage (budget : ℕ) (bytes : List ℕ) (on : Outside) (ended : Ended) (Stands : Outside → Type 0) : Type 0 where
+  pub gives : IsTrue (is_own ended.end) → Gives (on_image budget bytes on) ended Stands
+  pub stands : (call : HostCall) → ended.end ≡ Host call → Leaves Stands (StandsOnImage budget bytes on)
+  pub nothing : ended.end ≡ Memory → Stands on
+
+-- files and input are as they were, and output and error output as they are told
+pub record KeepsInput (on : Outside) (out err : Option (List ℕ)) (now : Outside) : Type 0 where
+  pub files_kept : now.files ≡ on.files
+  pub left_kept : now.left ≡ on.left
+  pub out_is : IsTold out now.out
+  pub err_is : IsTold err now.err
 
 -- the counts of failed calls of a host, a source and two sinks
 pub record Tally : Type 0 where
@@ -106,10 +131,27 @@ abbrev pub IsImage : Option (List ℕ) → Type 0
 IsImage None = ⊥
 IsImage (Some bytes) = IsTrue (image_fits bytes)
 
--- words that don't fit are refused, unless memory is wanting, and only such words
-pub record RefusesWords (fit : Bool) (end : End) : Type 0 where
-  pub always : fit ≡ false → (end ≡ Words (record { word = 0; kind = 15 })) ⊎ (end ≡ Memory)
+-- words that don't fit are refused, and only such words, where their number fits 32 bits
+pub record RefusesWords (count : ℕ) (fit : Bool) (end : End) : Type 0 where
+  pub always : count < 2 ^ 32 → fit ≡ false → end ≡ no_command
   pub only : fit ≡ true → (fault : _) → end ≡ Words fault → ⊥
+
+-- a file that isn't an image is refused, whatever memory there is, and only such a file
+pub record RefusesImage (fits : Bool) (end : End) : Type 0 where
+  pub always : fits ≡ false → end ≡ no_image
+  pub only : fits ≡ true → is_refusal end ≡ false
+
+-- the end after a load by what it gave
+abbrev pub EndsLoad : Loaded → End → Type 0
+EndsLoad (Whole bytes) end = RefusesImage (image_fits bytes.items) end
+EndsLoad Long end = end ≡ no_image
+EndsLoad Failed end = end ≡ Host (Load 1)
+EndsLoad Loaded.Memory end = end ≡ Memory
+
+-- after a load that gave a file, a put that failed has its count; else no put was made
+abbrev pub CausesLoad : Loaded → End → (out out' err err' : ℕ) → Type 0
+CausesLoad (Whole bytes) end out out' err err' = IsCaused (failed_call end) out out' err err'
+CausesLoad other end out out' err err' = (out' ≡ out) × (err' ≡ err)
 
 -- a machine that a failed call stopped isn't answered
 abbrev pub machine_after : RunEnd → Machine → Option Machine

@@ -2,7 +2,7 @@
 use Rattle.std.specs.Prelude.{ℕ, ◌+◌}
 use Rattle.gpr_flags.specs.declared.kinds.Fault.{Fault}
 use Rattle.gpr_flags.specs.declared.kinds.Fault.TheVariants.{Divide, Breakpoint, Undefined, General, Page}
-use Rattle.machine_state.specs.declared.kinds.RunEnd.TheVariants.{Killed}
+use Rattle.machine_state.specs.declared.kinds.GuestEnd.TheVariants.{Killed}
 use Rattle.machine_state.specs.World.{World}
 use Rattle.core_step.specs.declared.acted.Acted.{Acted}
 use Rattle.core_step.specs.declared.acted.Acted.TheVariants.{Done, Call, Trap, Need}

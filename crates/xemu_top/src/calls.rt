@@ -9,14 +9,14 @@ ghost use Rattle.guest_pages.specs.Pages.{table_of, byte_of};
 ghost use Rattle.guest_pages.specs.Changes.{AllResident};
 ghost use Rattle.core_step.specs.Machine.{state_of};
 ghost use Rattle.xemu_top.specs.Call.{answered, put_bytes, put_answer, write_call, write_to as write_to_spec, called, goes_on};
-ghost use Rattle.xemu_top.specs.Following.{FollowsAt, IsCaused, SignalFits, stopped_by};
+ghost use Rattle.xemu_top.specs.Following.{FollowsAt, IsCaused, SignalFits, failed_in};
 ghost use Rattle.xemu_top.specs.Streams.{stream_of, descriptor_of};
 
 use core_step::Machine;
 use gpr_flags::{RAX, RDI, RDX, RSI};
 use guest_pages::{Kind, Pages};
-use host_edge::{Failed, Sink};
-use machine_state::{HostCall, RunEnd};
+use host_edge::{Failed, HostCall, Sink};
+use machine_state::GuestEnd;
 
 /// EBADF 9, EFAULT 14 and ENOSYS 38, negative, as a register has them.
 const BAD_DESCRIPTOR: u64 = u64::MAX - 9 + 1;
@@ -134,7 +134,7 @@ fn write_stream<O: Sink, E: Sink>(
     count: u64,
     out: &mut O,
     err: &mut E,
-) -> Option<RunEnd>
+) -> Result<Option<GuestEnd>, HostCall>
     requires { AllResident machine.old.pages }
     ensures follows { FollowsAt (λ world. goes_on (write_to_spec (Some (descriptor_of stream)) addr count world))
         machine.old machine.new (O.taken out.old) (O.taken out.new) (E.taken err.old) (E.taken err.new) result }
@@ -142,23 +142,23 @@ fn write_stream<O: Sink, E: Sink>(
     ensures steps { machine.new.steps ≡ machine.old.steps }
     ensures out_tells { is_some (O.taken out.new) ≡ is_some (O.taken out.old) }
     ensures err_tells { is_some (E.taken err.new) ≡ is_some (E.taken err.old) }
-    ensures cause { IsCaused (stopped_by result) (O.faults out.old) (O.faults out.new) (E.faults err.old) (E.faults err.new) }
+    ensures cause { IsCaused (failed_in result) (O.faults out.old) (O.faults out.new) (E.faults err.old) (E.faults err.new) }
     ensures signal { SignalFits result }
 {
     match stream {
         Stream::Output => match write_to(machine, addr, count, out) {
-            Ok(()) => None,
-            Err(_) => Some(RunEnd::Host(HostCall::PutOut)),
+            Ok(()) => Ok(None),
+            Err(_) => Err(HostCall::PutOut),
         },
         Stream::ErrorOutput => match write_to(machine, addr, count, err) {
-            Ok(()) => None,
-            Err(_) => Some(RunEnd::Host(HostCall::PutErr)),
+            Ok(()) => Ok(None),
+            Err(_) => Err(HostCall::PutErr),
         },
     }
 }
 
 /// The call write.
-fn write<O: Sink, E: Sink>(machine: &mut Machine, out: &mut O, err: &mut E) -> Option<RunEnd>
+fn write<O: Sink, E: Sink>(machine: &mut Machine, out: &mut O, err: &mut E) -> Result<Option<GuestEnd>, HostCall>
     requires { AllResident machine.old.pages }
     ensures follows { FollowsAt (λ world. goes_on (write_call world)) machine.old machine.new
         (O.taken out.old) (O.taken out.new) (E.taken err.old) (E.taken err.new) result }
@@ -166,7 +166,7 @@ fn write<O: Sink, E: Sink>(machine: &mut Machine, out: &mut O, err: &mut E) -> O
     ensures steps { machine.new.steps ≡ machine.old.steps }
     ensures out_tells { is_some (O.taken out.new) ≡ is_some (O.taken out.old) }
     ensures err_tells { is_some (E.taken err.new) ≡ is_some (E.taken err.old) }
-    ensures cause { IsCaused (stopped_by result) (O.faults out.old) (O.faults out.new) (E.faults err.old) (E.faults err.new) }
+    ensures cause { IsCaused (failed_in result) (O.faults out.old) (O.faults out.new) (E.faults err.old) (E.faults err.new) }
     ensures signal { SignalFits result }
 {
     let descriptor = machine.gprs.get(RDI);
@@ -176,7 +176,7 @@ fn write<O: Sink, E: Sink>(machine: &mut Machine, out: &mut O, err: &mut E) -> O
         Some(stream) => write_stream(machine, stream, addr, count, out, err),
         None => {
             set_answer(machine, BAD_DESCRIPTOR);
-            None
+            Ok(None)
         }
     }
 }
@@ -187,7 +187,7 @@ pub(crate) fn answer_call<O: Sink, E: Sink>(
     machine: &mut Machine,
     out: &mut O,
     err: &mut E,
-) -> Option<RunEnd>
+) -> Result<Option<GuestEnd>, HostCall>
     requires { AllResident machine.old.pages }
     ensures follows { FollowsAt called machine.old machine.new
         (O.taken out.old) (O.taken out.new) (E.taken err.old) (E.taken err.new) result }
@@ -195,15 +195,15 @@ pub(crate) fn answer_call<O: Sink, E: Sink>(
     ensures steps { machine.new.steps ≡ machine.old.steps }
     ensures out_tells { is_some (O.taken out.new) ≡ is_some (O.taken out.old) }
     ensures err_tells { is_some (E.taken err.new) ≡ is_some (E.taken err.old) }
-    ensures cause { IsCaused (stopped_by result) (O.faults out.old) (O.faults out.new) (E.faults err.old) (E.faults err.new) }
+    ensures cause { IsCaused (failed_in result) (O.faults out.old) (O.faults out.new) (E.faults err.old) (E.faults err.new) }
     ensures signal { SignalFits result }
 {
     match machine.gprs.get(RAX) {
         1 => write(machine, out, err),
-        60 => Some(RunEnd::Exit((machine.gprs.get(RDI) % 256) as u8)),
+        60 => Ok(Some(GuestEnd::Exit((machine.gprs.get(RDI) % 256) as u8))),
         _ => {
             set_answer(machine, NO_SUCH_CALL);
-            None
+            Ok(None)
         }
     }
 }

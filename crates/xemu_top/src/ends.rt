@@ -3,7 +3,7 @@ ghost use Rattle.std.specs.Prelude.{◌≡◌, ◌<◌};
 ghost use Rattle.xemu_top.specs.Command.{status_of};
 
 use core_step::Machine;
-use machine_state::HostCall;
+use host_edge::HostCall;
 
 /// A command line that isn't accepted: the index of the word, from 0, and which rule it breaks. Kind 15 at word 0 is any
 /// command line other than `run` and the path of a program.
@@ -36,6 +36,16 @@ pub enum End {
     Host(HostCall),
     /// Memory was wanting before the first step.
     Memory,
+}
+
+/// How a run ended.
+#[derive(Clone, Copy, Debug, PartialEq, Eq)]
+pub(crate) enum RunEnd {
+    Exit(u8),
+    Killed(u8),
+    Budget,
+    /// A call on the outside failed.
+    Host(HostCall),
 }
 
 /// What `emulate` answers: the exit status, the end, and the machine as the guest left it, where the end is the guest's.

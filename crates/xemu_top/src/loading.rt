@@ -4,9 +4,9 @@ ghost use Rattle.machine_state.specs.Memory.{Swap};
 ghost use Rattle.host_edge.specs.Causes.{Counts, Rose};
 ghost use Rattle.host_edge.specs.Files.{Held};
 ghost use Rattle.guest_pages.specs.Pages.{byte_of, memory_of};
-ghost use Rattle.guest_pages.specs.Changes.{AllResident, IsBlank};
+ghost use Rattle.guest_pages.specs.Changes.{AllResident, IsBlank, KeepsSize};
 ghost use Rattle.core_step.specs.Machine.{state_of};
-ghost use Rattle.xemu_top.specs.Command.{image_fits as image_fits_spec, header_fits as header_fits_spec, sizes_fit as sizes_fit_spec, number_from as number_from_spec, first_state, image_memory, page_count};
+ghost use Rattle.xemu_top.specs.Command.{image_fits as image_fits_spec, header_fits as header_fits_spec, sizes_fit as sizes_fit_spec, number_from as number_from_spec, first_state, image_memory, default_pages, longest_image};
 ghost use Rattle.xemu_top.specs.Loading.{IsLoaded, LoadCaused, AreMapped, image_perms};
 
 use byteorder::{ByteOrder, LittleEndian};
@@ -118,17 +118,18 @@ fn sizes_fit(bytes: &[u8]) -> bool
 #[tactic(auto, unfolding(crate::specs::Command::image_fits))]
 pub(crate) fn image_fits(bytes: &[u8]) -> bool
     ensures value { result ≡ image_fits_spec bytes.now }
-    ensures len { IsTrue result → (121 ≤ length bytes.now) × (length bytes.now ≤ LONGEST_IMAGE) }
+    ensures len { IsTrue result → (121 ≤ length bytes.now) × (length bytes.now ≤ longest_image) }
 {
     bytes.len() >= 121 && bytes.len() <= LONGEST_IMAGE && header_fits(bytes) && sizes_fit(bytes)
 }
 
 /// Maps the pages of an image, in which its bytes can then be written.
 fn map_image(pages: &mut Pages, count: u64)
-    requires blank { IsBlank pages.old PAGES PAGES }
-    requires room { count ≤ PAGES }
+    requires blank { IsBlank pages.old default_pages default_pages }
+    requires room { count ≤ default_pages }
     ensures mapped { AreMapped pages.new (image_perms count 3) }
     ensures zeros { (swap : Swap) (addr : ℕ) → byte_of pages.new swap addr ≡ 0 }
+    ensures size { KeepsSize pages.old pages.new }
 {
     for i in 0..count {
         match pages.map_page(IMAGE_BASE + PAGE * i, READ_WRITE) {
@@ -141,9 +142,10 @@ fn map_image(pages: &mut Pages, count: u64)
 /// Gives the pages of an image their permissions.
 fn protect_image(pages: &mut Pages, count: u64)
     requires mapped { AreMapped pages.old (image_perms count 3) }
-    requires room { count ≤ PAGES }
+    requires room { count ≤ default_pages }
     ensures mapped { AreMapped pages.new (image_perms count 5) }
     ensures bytes { (swap : Swap) → byte_of pages.new swap ≡ byte_of pages.old swap }
+    ensures size { KeepsSize pages.old pages.new }
 {
     for i in 0..count {
         pages.set_perms(IMAGE_BASE + PAGE * i, READ_EXECUTE);
@@ -152,9 +154,10 @@ fn protect_image(pages: &mut Pages, count: u64)
 
 /// The pages of an image.
 fn image_pages(alloc: Global, bytes: &[u8]) -> Result<Pages, AllocError>
-    requires { length bytes.now ≤ LONGEST_IMAGE }
+    requires { length bytes.now ≤ longest_image }
     ensures memory { IfOk result (λ pages. (swap : Swap) → memory_of pages swap ≡ image_memory bytes.now) }
     ensures resident { IfOk result AllResident }
+    ensures limit { IfOk result (λ pages. length pages.slots ≡ default_pages) }
 {
     let count = (bytes.len() as u64 + 4095) / PAGE;
     let mut pages = Pages::new(alloc, PAGES, PAGES)?;
@@ -169,10 +172,11 @@ fn image_pages(alloc: Global, bytes: &[u8]) -> Result<Pages, AllocError>
 
 /// The machine before the first step of an image.
 pub(crate) fn first_machine(alloc: Global, bytes: &[u8]) -> Result<Machine, AllocError>
-    requires { (121 ≤ length bytes.now) × (length bytes.now ≤ LONGEST_IMAGE) }
+    requires { (121 ≤ length bytes.now) × (length bytes.now ≤ longest_image) }
     ensures state { IfOk result (λ machine. (swap : Swap) → state_of machine swap ≡ first_state bytes.now) }
     ensures steps { IfOk result (λ machine. machine.steps ≡ 0) }
     ensures resident { IfOk result (λ machine. AllResident machine.pages) }
+    ensures limit { IfOk result (λ machine. length machine.pages.slots ≡ default_pages) }
 {
     let pages = image_pages(alloc, bytes)?;
     Ok(Machine {

@@ -4,13 +4,14 @@ ghost use Rattle.guest_pages.specs.Changes.{AllResident};
 ghost use Rattle.legacy_decode.specs.Spelling.{IsDecoded};
 ghost use Rattle.core_step.specs.Act.{performed};
 ghost use Rattle.xemu_top.specs.Step.{step, after_part, signal_of as signal_of_fault};
-ghost use Rattle.xemu_top.specs.Following.{FollowsAt, RunsAt, IsCaused, SignalFits, stopped_by};
+ghost use Rattle.xemu_top.specs.Following.{FollowsAt, RunsAt, IsCaused, SignalFits, HasRunSignal, failed_in, run_end as run_end_spec, stopped_by};
 
 use crate::calls::answer_call;
+use crate::ends::RunEnd;
 use core_step::{Acted, Decoded, Fetched, Fetcher, Machine};
 use gpr_flags::Fault;
-use host_edge::Sink;
-use machine_state::RunEnd;
+use host_edge::{HostCall, Sink};
+use machine_state::GuestEnd;
 
 /// The signal that a fault raises.
 fn signal_of(fault: Fault) -> u8
@@ -25,13 +26,13 @@ fn signal_of(fault: Fault) -> u8
 }
 
 /// Ends the guest by the signal of a fault. That is a step too.
-fn kill(machine: &mut Machine, fault: Fault) -> RunEnd
+fn kill(machine: &mut Machine, fault: Fault) -> GuestEnd
     requires { machine.old.steps < 2 ^ 64 - 1 }
-    ensures end { result ≡ RunEnd.Killed (signal_of_fault fault) }
+    ensures end { result ≡ GuestEnd.Killed (signal_of_fault fault) }
     ensures machine { machine.new ≡ record machine.old { steps = machine.old.steps + 1 } }
 {
     machine.steps += 1;
-    RunEnd::Killed(signal_of(fault))
+    GuestEnd::Killed(signal_of(fault))
 }
 
 /// Performs an instruction of so many bytes, with its system call's answer, or ends the guest by its fault's signal.
@@ -41,7 +42,7 @@ fn perform<O: Sink, E: Sink>(
     len: u8,
     out: &mut O,
     err: &mut E,
-) -> Option<RunEnd>
+) -> Result<Option<GuestEnd>, HostCall>
     requires spells { IsDecoded d.now.fields d.now }
     requires some { 1 ≤ len }
     requires most { len ≤ 15 }
@@ -53,17 +54,17 @@ fn perform<O: Sink, E: Sink>(
     ensures steps { machine.new.steps ≡ machine.old.steps + 1 }
     ensures out_tells { is_some (O.taken out.new) ≡ is_some (O.taken out.old) }
     ensures err_tells { is_some (E.taken err.new) ≡ is_some (E.taken err.old) }
-    ensures cause { IsCaused (stopped_by result) (O.faults out.old) (O.faults out.new) (E.faults err.old) (E.faults err.new) }
+    ensures cause { IsCaused (failed_in result) (O.faults out.old) (O.faults out.new) (E.faults err.old) (E.faults err.new) }
     ensures signal { SignalFits result }
 {
     match machine.perform(d, len) {
-        Acted::Done => None,
+        Acted::Done => Ok(None),
         Acted::Call => {
             let end = answer_call(machine, out, err);
             machine.steps += 1;
             end
         }
-        Acted::Trap(fault) => Some(kill(machine, fault)),
+        Acted::Trap(fault) => Ok(Some(kill(machine, fault))),
         Acted::Need(_) => unreachable!(),
     }
 }
@@ -74,7 +75,7 @@ fn turn<O: Sink, E: Sink>(
     fetcher: &mut Fetcher,
     out: &mut O,
     err: &mut E,
-) -> Option<RunEnd>
+) -> Result<Option<GuestEnd>, HostCall>
     requires room { machine.old.steps < 2 ^ 64 - 1 }
     requires resident { AllResident machine.old.pages }
     ensures follows { FollowsAt step machine.old machine.new
@@ -83,13 +84,23 @@ fn turn<O: Sink, E: Sink>(
     ensures steps { machine.new.steps ≡ machine.old.steps + 1 }
     ensures out_tells { is_some (O.taken out.new) ≡ is_some (O.taken out.old) }
     ensures err_tells { is_some (E.taken err.new) ≡ is_some (E.taken err.old) }
-    ensures cause { IsCaused (stopped_by result) (O.faults out.old) (O.faults out.new) (E.faults err.old) (E.faults err.new) }
+    ensures cause { IsCaused (failed_in result) (O.faults out.old) (O.faults out.new) (E.faults err.old) (E.faults err.new) }
     ensures signal { SignalFits result }
 {
     match machine.fetch_by(fetcher) {
         Fetched::Instr(d, len) => perform(machine, d, *len, out, err),
-        Fetched::Trap(fault) => Some(kill(machine, *fault)),
+        Fetched::Trap(fault) => Ok(Some(kill(machine, *fault))),
         Fetched::Need(_) => unreachable!(),
+    }
+}
+
+/// The end of a run by that of its guest.
+fn run_end(end: GuestEnd) -> RunEnd
+    ensures { result ≡ run_end_spec (Some end) }
+{
+    match end {
+        GuestEnd::Exit(code) => RunEnd::Exit(code),
+        GuestEnd::Killed(signal) => RunEnd::Killed(signal),
     }
 }
 
@@ -107,13 +118,14 @@ pub(crate) fn run<O: Sink, E: Sink>(
         (O.taken out.old) (O.taken out.new) (E.taken err.old) (E.taken err.new) result }
     ensures out_tells { is_some (O.taken out.new) ≡ is_some (O.taken out.old) }
     ensures err_tells { is_some (E.taken err.new) ≡ is_some (E.taken err.old) }
-    ensures cause { IsCaused (stopped_by (Some result)) (O.faults out.old) (O.faults out.new) (E.faults err.old) (E.faults err.new) }
-    ensures signal { SignalFits (Some result) }
+    ensures cause { IsCaused (stopped_by result) (O.faults out.old) (O.faults out.new) (E.faults err.old) (E.faults err.new) }
+    ensures signal { HasRunSignal result }
 {
     while machine.steps < upto {
         match turn(machine, fetcher, out, err) {
-            None => {}
-            Some(end) => return end,
+            Ok(None) => {}
+            Ok(Some(end)) => return run_end(end),
+            Err(call) => return RunEnd::Host(call),
         }
     }
     RunEnd::Budget

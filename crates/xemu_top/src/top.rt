@@ -1,17 +1,16 @@
 //! The command.
-ghost use Rattle.std.specs.Prelude.{◌≡◌, ◌<◌, ◌≤◌, ◌^◌, ℕ, IsSome, IsTrue, Some, None, true, false, is_some, length, map, string_bytes};
-ghost use Rattle.host_edge.specs.Streams.{told};
-ghost use Rattle.xemu_top.specs.Command.{words_fit as words_fit_spec, path_fits as path_fits_spec, path_word, image_fits as image_fits_spec, status_of, HasSignal, HasRunSignal};
+ghost use Rattle.std.specs.Prelude.{◌≡◌, ◌≤◌, ◌^◌, ℕ, List, Option, IsSome, IsTrue, Some, None, false, is_some, length, map, string_bytes};
+ghost use Rattle.xemu_top.specs.Command.{words_fit as words_fit_spec, path_fits as path_fits_spec, path_word, image_fits as image_fits_spec, default_budget, status_of, HasSignal};
 ghost use Rattle.xemu_top.specs.Run.{Outside};
-ghost use Rattle.xemu_top.specs.Following.{IsCaused};
-ghost use Rattle.xemu_top.specs.Headline.{Meets, MeetsImage, outside_told, Tally, IsCounted, NoneRose, IsImage, files_of, failed_call, is_own, is_run_or_memory, is_refusal, RefusesWords, finished};
+ghost use Rattle.xemu_top.specs.Loading.{IsLoaded};
+ghost use Rattle.xemu_top.specs.Following.{IsCaused, IsTold, HasRunSignal};
+ghost use Rattle.xemu_top.specs.Headline.{Meets, MeetsFile, MeetsImage, IsOutside, KeepsInput, EndsLoad, CausesLoad, RefusesImage, Tally, IsCounted, NoneRose, IsImage, files_of, failed_call, is_own, is_run_or_memory, RefusesWords, finished};
 
-use crate::ends::{End, Ended, ImageFault, WordFault};
+use crate::ends::{End, Ended, ImageFault, RunEnd, WordFault};
 use crate::loading::{Loaded, first_machine, image_fits, load_file};
 use crate::running::run;
 use core_step::{Fetcher, Machine};
-use host_edge::{Host, Sink, Source};
-use machine_state::{HostCall, RunEnd};
+use host_edge::{Host, HostCall, Sink, Source};
 use std::alloc::Global;
 
 /// The budget of steps.
@@ -84,11 +83,9 @@ fn finish(end: RunEnd, machine: Machine) -> Ended
 
 /// Runs an image, or refuses it.
 fn on_image<O: Sink, E: Sink>(alloc: Global, bytes: &[u8], out: &mut O, err: &mut E) -> Ended
-    ensures meets { (on : Outside) → on.out ≡ told (O.taken out.old) → on.err ≡ told (E.taken err.old)
-        → IsSome (O.taken out.old) → IsSome (E.taken err.old)
-        → MeetsImage BUDGET bytes.now on result
-        (record on { out = told (O.taken out.new); err = told (E.taken err.new) }) }
-    ensures ran { IsTrue (image_fits_spec bytes.now) → is_refusal result.end ≡ false }
+    ensures meets { (on : Outside) → IsTold (O.taken out.old) on.out → IsTold (E.taken err.old) on.err
+        → MeetsImage default_budget bytes.now on result (KeepsInput on (O.taken out.new) (E.taken err.new)) }
+    ensures refuses { RefusesImage (image_fits_spec bytes.now) result.end }
     ensures no_words { (fault : _) → result.end ≡ End.Words fault → ⊥ }
     ensures status { result.status ≡ status_of result.end }
     ensures no_machine { is_own result.end ≡ false → result.machine ≡ None }
@@ -112,6 +109,27 @@ fn on_image<O: Sink, E: Sink>(alloc: Global, bytes: &[u8], out: &mut O, err: &mu
     }
 }
 
+/// Runs what a load gave, or refuses it.
+fn on_loaded<O: Sink, E: Sink>(alloc: Global, loaded: Loaded, out: &mut O, err: &mut E) -> Ended
+    ensures meets { (on : Outside) (file : Option (List ℕ)) → IsLoaded loaded file
+        → IsTold (O.taken out.old) on.out → IsTold (E.taken err.old) on.err
+        → MeetsFile default_budget file on result (KeepsInput on (O.taken out.new) (E.taken err.new)) }
+    ensures ends { EndsLoad loaded result.end }
+    ensures no_words { (fault : _) → result.end ≡ End.Words fault → ⊥ }
+    ensures status { result.status ≡ status_of result.end }
+    ensures no_machine { is_own result.end ≡ false → result.machine ≡ None }
+    ensures out_tells { is_some (O.taken out.new) ≡ is_some (O.taken out.old) }
+    ensures err_tells { is_some (E.taken err.new) ≡ is_some (E.taken err.old) }
+    ensures cause { CausesLoad loaded result.end (O.faults out.old) (O.faults out.new) (E.faults err.old) (E.faults err.new) }
+{
+    match loaded {
+        Loaded::Whole(bytes) => on_image(alloc, &bytes, out, err),
+        Loaded::Long => refused(End::Image(NO_IMAGE)),
+        Loaded::Failed => refused(End::Host(HostCall::Load(1))),
+        Loaded::Memory => refused(End::Memory),
+    }
+}
+
 /// Does what the words say: `run` and the path of a program loads it from the host and runs it.
 ///
 /// `out` and `err` are the guest's output and error output. The program itself puts nothing on them. A run takes its memory before
@@ -124,11 +142,11 @@ pub fn emulate<H: Host, S: Source, O: Sink, E: Sink>(
     out: &mut O,
     err: &mut E,
 ) -> Ended
-    // A run is the written machine's run, where the outside tells what it holds and was given.
-    ensures headline { IsSome (H.holds host.old) → IsSome (O.taken out.old) → IsSome (E.taken err.old)
-        → Meets BUDGET (map string_bytes words.now)
-        (outside_told (H.holds host.old) (S.left input.old) (O.taken out.old) (E.taken err.old)) result
-        (outside_told (H.holds host.new) (S.left input.new) (O.taken out.new) (E.taken err.new)) }
+    // A run is the written machine's run, where the host tells its files; of the streams each counts where it is told.
+    ensures headline { IsSome (H.holds host.old) → (on : Outside)
+        → IsOutside (H.holds host.old) (S.left input.old) (O.taken out.old) (E.taken err.old) on
+        → Meets default_budget (map string_bytes words.now) on result
+        (IsOutside (H.holds host.new) (S.left input.new) (O.taken out.new) (E.taken err.new)) }
     ensures complete { IsSome (H.holds host.old)
         → IsTrue (words_fit_spec (map string_bytes words.now))
         → IsImage (files_of (H.holds host.old) (path_word (map string_bytes words.now)))
@@ -140,15 +158,17 @@ pub fn emulate<H: Host, S: Source, O: Sink, E: Sink>(
     ensures cause { IsCounted (failed_call result.end)
         (record { host = H.faults host.old; take = S.faults input.old; out = O.faults out.old; err = E.faults err.old })
         (record { host = H.faults host.new; take = S.faults input.new; out = O.faults out.new; err = E.faults err.new }) }
-    ensures words { RefusesWords (words_fit_spec (map string_bytes words.now)) result.end }
+    ensures words { RefusesWords (length words.now) (words_fit_spec (map string_bytes words.now)) result.end }
     ensures too_many { 2 ^ 32 ≤ length words.now → result.end ≡ End.Memory }
     ensures status { result.status ≡ status_of result.end }
     ensures no_machine { is_own result.end ≡ false → result.machine ≡ None }
 
-    // No file is stored, no swap is opened, and no input is taken.
+    // No file is stored, no swap is opened, and no input is taken. What the streams tell they still tell.
     ensures host_kept { H.holds host.new ≡ H.holds host.old }
     ensures swap_kept { H.opened host.new ≡ H.opened host.old }
     ensures input_kept { S.left input.new ≡ S.left input.old }
+    ensures out_tells { is_some (O.taken out.new) ≡ is_some (O.taken out.old) }
+    ensures err_tells { is_some (E.taken err.new) ≡ is_some (E.taken err.old) }
 {
     if words.len() > u32::MAX as usize {
         return refused(End::Memory);
@@ -156,10 +176,6 @@ pub fn emulate<H: Host, S: Source, O: Sink, E: Sink>(
     if !words_fit(words) {
         return refused(End::Words(NO_COMMAND));
     }
-    match load_file(alloc, path_in(words), host) {
-        Loaded::Whole(bytes) => on_image(alloc, &bytes, out, err),
-        Loaded::Long => refused(End::Image(NO_IMAGE)),
-        Loaded::Failed => refused(End::Host(HostCall::Load(1))),
-        Loaded::Memory => refused(End::Memory),
-    }
+    let loaded = load_file(alloc, path_in(words), host);
+    on_loaded(alloc, loaded, out, err)
 }

@@ -1,12 +1,12 @@
 use Rattle.std.proofs.Common.{◌∙◌, ◌+◌, ◌/◌, sym, refl, subst, Some, []}
 use Rattle.core_step.specs.declared.fetching.Fetched.{Fetched}
 use Rattle.core_step.specs.Fetch.{IsFetched}
-use Rattle.machine_state.specs.declared.kinds.RunEnd.TheVariants.{Killed}
+use Rattle.machine_state.specs.declared.kinds.GuestEnd.TheVariants.{Killed}
 use Rattle.core_step.specs.Act.{performed, trapped}
 use Rattle.core_step.specs.Machine.{state_of}
 use Rattle.xemu_top.specs.Following.{world_at}
 use Rattle.xemu_top.proofs.RunLemmas.{step_is}
-use Rattle.xemu_top.proofs.FollowLemmas.{follows-whole}
+use Rattle.xemu_top.proofs.FollowLemmas.{reaches, follows-whole}
 use Rattle.xemu_top.proofs.running.turn.Goals as goal
 
 -- no page is away
@@ -17,17 +17,17 @@ unreachable-requires g c =
     cc
 
 pub returns-in-Instr-clause-follows : goal.returns-in-Instr-clause-follows
-returns-in-Instr-clause-follows g c w base first out_tells err_tells =
-    rw (step_is (world_at base (state_of c.args.machine.now w) (g.O.Sink.taken c.args.out.now) (g.E.Sink.taken c.args.err.now))
+returns-in-Instr-clause-follows g c w base o e first out_is err_is =
+    rw (step_is (world_at base (state_of c.args.machine.now w) o e)
     (performed c.in-Instr.d c.in-Instr.len (state_of c.args.machine.now w)) (subst (λ (f : Fetched). IsFetched (state_of c.args.machine.now w) f) c.in-Instr.is (c.fetch_by.ensures.whole w)))
-    (c.perform.ensures.follows w base first out_tells err_tells)
+    (c.perform.ensures.follows w base o e first out_is err_is)
 
 pub returns-in-Trap-clause-follows : goal.returns-in-Trap-clause-follows
-returns-in-Trap-clause-follows g c w base first out_tells err_tells =
+returns-in-Trap-clause-follows g c w base o e first out_is err_is =
     rw (
-      step_is (world_at base (state_of c.args.machine.now w) (g.O.Sink.taken c.args.out.now) (g.E.Sink.taken c.args.err.now))
+      step_is (world_at base (state_of c.args.machine.now w) o e)
           (trapped c.in-Trap.fault (state_of c.args.machine.now w)) (subst (λ (f : Fetched). IsFetched (state_of c.args.machine.now w) f) c.in-Trap.is (c.fetch_by.ensures.whole w)),
       c.kill.ensures.end,
       c.kill.ensures.machine,
     )
-    (follows-whole _ _ (Some (Killed _)) _ refl refl refl)
+    (reaches _ _ base _ o e _ out_is err_is (follows-whole _ _ (Some (Killed _)) _ refl refl))
