@@ -4,12 +4,13 @@ ghost use Rattle.host_edge.specs.Files.{page_len};
 ghost use Rattle.host_edge.specs.NamedFiles.{fits_in, named};
 
 use crate::bytes::zeros;
+use crate::transfers::{fill, read_file, read_page, write_page};
 use crate::{
     Failed, FileHost, FileSink, FileSource, Host, MemHost, MemSink, MemSource, PAGE, Sink, Source,
 };
 use std::alloc::{AllocError, Global};
 use std::fs::{self, File};
-use std::io::Write;
+use std::io::{Cursor, Read, Write};
 use std::test::Fail;
 use std::{env, io, process};
 
@@ -224,6 +225,87 @@ fn a_swap_over_a_file_gives_its_pages_back(rt: HostRuntime) -> Result<(), Fail> 
     Ok(())
 }
 
+// A reader of six bytes that gives at most so many a call, and fails at the call with this number.
+#[derive(Drop)]
+struct Slow {
+    at: usize,
+    most: usize,
+    calls: u64,
+    fails_at: u64,
+}
+
+impl Read for Slow {
+    fn read(&mut self, into: &mut [u8]) -> io::Result<usize> {
+        self.calls = self.calls.saturating_add(1);
+        if self.calls == self.fails_at {
+            return Err(io::ErrorKind::Other.into());
+        }
+        let text = b"abcdef";
+        let left = &text[self.at.min(text.len())..];
+        let count = left.len().min(self.most).min(into.len());
+        into[..count].copy_from_slice(&left[..count]);
+        self.at = self.at.saturating_add(count);
+        Ok(count)
+    }
+}
+
+fn slow(most: usize, fails_at: u64) -> Slow {
+    Slow {
+        at: 0,
+        most,
+        calls: 0,
+        fails_at,
+    }
+}
+
+#[test]
+fn a_file_is_read_whole_from_parts(rt: HostRuntime) -> Result<(), Fail> {
+    for (room, most, fails_at, want, front) in [
+        (8, 6, 0, Ok(6), b"abcdef.."),
+        (6, 2, 0, Ok(6), b"abcdef.."),
+        (4, 3, 0, Ok(5), b"abcd...."),
+        (8, 0, 0, Ok(0), b"........"),
+        (8, 2, 2, Err(io::ErrorKind::Other), b"ab......"),
+        (6, 6, 2, Err(io::ErrorKind::Other), b"abcdef.."),
+    ] {
+        let mut into = *b"........";
+        let done = read_file(&mut slow(most, fails_at), &mut into[..room]);
+        assert_eq!(rt; done.map_err(|error| error.kind()), want, "{room} {most} {fails_at}");
+        assert_eq!(rt; &into, front);
+    }
+    Ok(())
+}
+
+#[test]
+fn a_buffer_is_filled_from_parts_or_not_at_all(rt: HostRuntime) -> Result<(), Fail> {
+    for (room, fails_at, want) in [
+        (6, 0, Ok(())),
+        (4, 2, Err(io::ErrorKind::Other)),
+        (7, 0, Err(io::ErrorKind::UnexpectedEof)),
+    ] {
+        let mut into = *b"........";
+        let done = fill(&mut slow(3, fails_at), &mut into[..room]);
+        assert_eq!(rt; done.map_err(|error| error.kind()), want, "{room}");
+    }
+    Ok(())
+}
+
+#[test]
+fn pages_lie_one_behind_the_other(rt: HostRuntime) -> Result<(), Fail> {
+    let alloc = rt.alloc();
+    let mut file = Cursor::new(zeros(alloc, 2 * PAGE + 100)?);
+    let page = page_of(alloc, 5)?;
+    let mut back = page_of(alloc, 9)?;
+    write_page(&mut file, 1, &page)?;
+    read_page(&mut file, 0, back.as_mut_slice())?;
+    assert_eq!(rt; back.as_slice(), zeros(alloc, PAGE)?.as_slice());
+    read_page(&mut file, 1, back.as_mut_slice())?;
+    assert_eq!(rt; back.as_slice(), page.as_slice());
+    let cut = read_page(&mut file, 2, back.as_mut_slice());
+    assert_eq!(rt; cut.map_err(|error| error.kind()), Err(io::ErrorKind::UnexpectedEof));
+    Ok(())
+}
+
 // A writer that takes two bytes at once, up to its room.
 #[derive(Drop)]
 struct Narrow {
@@ -240,6 +322,26 @@ impl Write for Narrow {
     fn flush(&mut self) -> io::Result<()> {
         Ok(())
     }
+}
+
+// A writer that takes all bytes, and can't hand them on.
+#[derive(Drop)]
+struct Stuck;
+
+impl Write for Stuck {
+    fn write(&mut self, bytes: &[u8]) -> io::Result<usize> {
+        Ok(bytes.len())
+    }
+
+    fn flush(&mut self) -> io::Result<()> {
+        Err(io::ErrorKind::Other.into())
+    }
+}
+
+#[test]
+fn a_flush_that_fails_is_a_failure(rt: HostRuntime) -> Result<(), Fail> {
+    assert_eq!(rt; FileSink::new(Stuck).put(b"abc"), Err(Failed));
+    Ok(())
 }
 
 #[test]

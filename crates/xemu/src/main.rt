@@ -7,8 +7,11 @@ use std::process::ExitCode;
 use std::{env, io};
 use xemu_top::emulate;
 
-/// The status where the words can't be had: memory is wanting, or one of them isn't text.
-const NO_WORDS: u8 = 71;
+/// The status of a command line that isn't accepted: here, one with a word that isn't text.
+const NO_TEXT: u8 = 64;
+
+/// The status where memory is wanting.
+const NO_MEMORY: u8 = 71;
 
 /// The words behind the program's own name.
 fn words(rt: &HostRuntime) -> io::Result<Vec<String>> {
@@ -19,10 +22,18 @@ fn words(rt: &HostRuntime) -> io::Result<Vec<String>> {
     Ok(words)
 }
 
+/// The status where the words can't be had.
+fn status_of(error: &io::Error) -> u8 {
+    match error.kind() {
+        io::ErrorKind::InvalidData => NO_TEXT,
+        _ => NO_MEMORY,
+    }
+}
+
 fn main(rt: HostRuntime) -> ExitCode {
     let words = match words(&rt) {
         Ok(words) => words,
-        Err(_) => return ExitCode::from(NO_WORDS),
+        Err(error) => return ExitCode::from(status_of(&error)),
     };
     let mut host = FileHost::new(rt);
     let mut input = FileSource::new(rt.stdin());

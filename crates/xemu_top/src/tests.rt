@@ -4,8 +4,7 @@ ghost use Rattle.host_edge.specs.NamedFiles.{named};
 
 use super::*;
 use gpr_flags::{RAX, RDX};
-use host_edge::{MemHost, MemSink, MemSource};
-use machine_state::HostCall;
+use host_edge::{HostCall, MemHost, MemSink, MemSource};
 use std::alloc::{AllocError, Global};
 use std::test::Fail;
 
@@ -36,19 +35,31 @@ fn file(alloc: Global, path: &str, bytes: &[u8]) -> Result<(String, Vec<u8>), Al
     ))
 }
 
-/// Runs a command on a host with one file, `hello`, and a sink with this room and these failing calls.
+/// The room of a sink, and its calls that fail with the bytes that each puts before.
+#[derive(Clone, Copy)]
+struct Room<'a> {
+    bytes: usize,
+    fail: &'a [(u64, usize)],
+}
+
+const WIDE: Room<'static> = Room {
+    bytes: 100,
+    fail: &[],
+};
+
+/// Runs a command on a host with one file, `hello`, and sinks with these rooms.
 fn run_command(
     alloc: Global,
     words: [&str; 2],
-    bytes: &[u8; 159],
-    room: usize,
-    fail: &[(u64, usize)],
+    bytes: &[u8],
+    out: Room,
+    err: Room,
 ) -> Result<Left, AllocError> {
     let files = vec![in alloc; file(alloc, "hello", bytes)?]?;
-    let mut host = MemHost::new(alloc, files, 164, 1, &[])?;
+    let mut host = MemHost::new(alloc, files, bytes.len() + 5, 1, &[])?;
     let mut input = MemSource::new(alloc, b"unread", 3, &[])?;
-    let mut out = MemSink::new(alloc, room, fail)?;
-    let mut err = MemSink::new(alloc, 100, &[])?;
+    let mut out = MemSink::new(alloc, out.bytes, out.fail)?;
+    let mut err = MemSink::new(alloc, err.bytes, err.fail)?;
     let words = vec![in alloc;
         String::from_str(alloc, words[0])?,
         String::from_str(alloc, words[1])?,
@@ -77,6 +88,35 @@ fn with_code(code: &[u8]) -> [u8; 159] {
         }
     }
     bytes
+}
+
+/// Writes so many bytes from address 0 to a descriptor, and exits with the number of the error.
+fn write_code(descriptor: u8, count: u8) -> [u8; 30] {
+    [
+        0xB8, 1, 0, 0, 0, 0xBF, descriptor, 0, 0, 0, 0x31, 0xF6, 0xBA, count, 0, 0, 0, 0x0F, 5,
+        0xF7, 0xD8, 0x89, 0xC7, 0xB8, 60, 0, 0, 0, 0x0F, 5,
+    ]
+}
+
+/// The sample program with its text at the end of its first page and the start of its second.
+fn two_pages(alloc: Global) -> Result<Vec<u8>, AllocError> {
+    let front = hello_with(&[
+        (96, 6),
+        (97, 0x10),
+        (104, 6),
+        (105, 0x10),
+        (133, 0x71),
+        (134, 0x0F),
+        (138, 12),
+    ]);
+    let mut bytes = Vec::from_slice(alloc, &front)?;
+    for _ in front.len()..4090 {
+        bytes.push(0)?;
+    }
+    for byte in b"page to page" {
+        bytes.push(*byte)?;
+    }
+    Ok(bytes)
 }
 
 fn steps_of(ended: &Ended) -> Option<u64> {
@@ -116,7 +156,7 @@ fn hello_prints_and_exits_and_its_variants_end_as_they_should(rt: HostRuntime) -
         (other_call, End::Exit(0), 0, "", Some(8)),
         (core_file, no_image, 65, "", None),
     ] {
-        let left = run_command(alloc, ["run", "hello"], &hello_with(changes), 100, &[])?;
+        let left = run_command(alloc, ["run", "hello"], &hello_with(changes), WIDE, WIDE)?;
         assert_eq!(rt; left.ended.end, end);
         assert_eq!(rt; left.ended.status, status);
         assert_eq!(rt; left.out.bytes(), text.as_bytes());
@@ -131,7 +171,7 @@ fn hello_prints_and_exits_and_its_variants_end_as_they_should(rt: HostRuntime) -
 #[test]
 fn code_ends_as_it_should(rt: HostRuntime) -> Result<(), Fail> {
     let alloc = rt.alloc();
-    let rows: [(&[u8], End, u8, u64); 8] = [
+    let rows: [(&[u8], End, u8, u64); 12] = [
         // mov ecx, 3; lea edi, [rdi + 5]; loop to the lea; mov eax, 60; syscall
         (
             &[
@@ -165,9 +205,15 @@ fn code_ends_as_it_should(rt: HostRuntime) -> Result<(), Fail> {
         (&[0xF4], End::Killed(11), 139, 1),
         (&[0xF3, 0xC3], End::Killed(11), 139, 1),
         (&[0x66; 15], End::Killed(11), 139, 1),
+        // a byte from address 0 is written: EFAULT; then to the descriptors 0 and 7: EBADF
+        (&write_code(1, 1), End::Exit(14), 14, 9),
+        (&write_code(0, 1), End::Exit(9), 9, 9),
+        (&write_code(7, 1), End::Exit(9), 9, 9),
+        // no byte
+        (&write_code(1, 0), End::Exit(0), 0, 9),
     ];
     for (code, end, status, steps) in rows {
-        let left = run_command(alloc, ["run", "hello"], &with_code(code), 100, &[])?;
+        let left = run_command(alloc, ["run", "hello"], &with_code(code), WIDE, WIDE)?;
         assert_eq!(rt; left.ended.end, end);
         assert_eq!(rt; left.ended.status, status);
         assert_eq!(rt; left.out.bytes().len(), 0);
@@ -193,7 +239,7 @@ fn a_fault_leaves_the_registers(rt: HostRuntime) -> Result<(), Fail> {
         (&[0x31, 0xC9, 0xF7, 0xF1], [0x40_007A, 0, 0, 0x246]),
     ];
     for (code, registers) in rows {
-        let left = run_command(rt.alloc(), ["run", "hello"], &with_code(code), 100, &[])?;
+        let left = run_command(rt.alloc(), ["run", "hello"], &with_code(code), WIDE, WIDE)?;
         assert_eq!(rt; registers_of(&left.ended), Some(registers));
     }
     Ok(())
@@ -209,7 +255,7 @@ fn words_that_do_not_fit_and_a_missing_file_are_refused(rt: HostRuntime) -> Resu
         (["run", ""], no_command, 64),
         (["run", "none"], End::Host(HostCall::Load(1)), 74),
     ] {
-        let left = run_command(alloc, words, &HELLO, 100, &[])?;
+        let left = run_command(alloc, words, &HELLO, WIDE, WIDE)?;
         assert_eq!(rt; left.ended.end, end);
         assert_eq!(rt; left.ended.status, status);
         assert_eq!(rt; left.out.bytes().len(), 0);
@@ -227,12 +273,51 @@ fn a_failing_sink_ends_the_run_with_what_it_took(rt: HostRuntime) -> Result<(), 
         (100, 6, "hello\n"),
         (5, 6, ""),
     ] {
-        let left = run_command(alloc, ["run", "hello"], &HELLO, room, &[(1, taken)])?;
+        let out = Room {
+            bytes: room,
+            fail: &[(1, taken)],
+        };
+        let left = run_command(alloc, ["run", "hello"], &HELLO, out, WIDE)?;
         assert_eq!(rt; left.ended.end, End::Host(HostCall::PutOut));
         assert_eq!(rt; left.ended.status, 74);
         assert_eq!(rt; left.out.bytes(), text.as_bytes());
         assert_eq!(rt; left.err.bytes().len(), 0);
         assert_eq!(rt; steps_of(&left.ended), None);
+    }
+    Ok(())
+}
+
+#[test]
+fn a_write_goes_over_the_end_of_a_page(rt: HostRuntime) -> Result<(), Fail> {
+    let image = two_pages(rt.alloc())?;
+    let left = run_command(rt.alloc(), ["run", "hello"], &image, WIDE, WIDE)?;
+    assert_eq!(rt; left.ended.end, End::Exit(0));
+    assert_eq!(rt; left.out.bytes(), b"page to page");
+    assert_eq!(rt; steps_of(&left.ended), Some(8));
+    let narrow = Room {
+        bytes: 100,
+        fail: &[(2, 3)],
+    };
+    let left = run_command(rt.alloc(), ["run", "hello"], &image, narrow, WIDE)?;
+    assert_eq!(rt; left.ended.end, End::Host(HostCall::PutOut));
+    assert_eq!(rt; left.out.bytes(), b"page to p");
+    Ok(())
+}
+
+#[test]
+fn descriptor_two_is_the_error_output(rt: HostRuntime) -> Result<(), Fail> {
+    let image = hello_with(&[(126, 2)]);
+    let fails: &[(u64, usize)] = &[(1, 2)];
+    for (fail, end, status, text) in [
+        (&[], End::Exit(0), 0, "hello\n"),
+        (fails, End::Host(HostCall::PutErr), 74, "he"),
+    ] {
+        let err = Room { bytes: 100, fail };
+        let left = run_command(rt.alloc(), ["run", "hello"], &image, WIDE, err)?;
+        assert_eq!(rt; left.ended.end, end);
+        assert_eq!(rt; left.ended.status, status);
+        assert_eq!(rt; left.err.bytes(), text.as_bytes());
+        assert_eq!(rt; left.out.bytes().len(), 0);
     }
     Ok(())
 }
