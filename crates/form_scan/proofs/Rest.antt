@@ -4,9 +4,10 @@ use Rattle.std.proofs.Common.{Some as some}
 use Rattle.std.specs.Prelude.{is_some, option_to_list}
 use Rattle.std.proofs.lemmas.List.{append-nil}
 use Rattle.row_table.specs.declared.kinds.Fields.{Fields}
+use Rattle.row_table.specs.Shapes.{sib_wanted}
 use Rattle.form_scan.specs.declared.kinds.Stop.{Stop}
 use Rattle.form_scan.specs.declared.kinds.Head.{Head}
-use Rattle.form_scan.specs.Shaped.{sib_wanted, disp_size, imm_size, fields_of}
+use Rattle.form_scan.specs.Shaped.{disp_size, imm_size, fields_of}
 use Rattle.form_scan.specs.Reading.{byte_at, optional_at, chunk_at, tail_at}
 use Rattle.form_scan.proofs.Reader.{Seq, then, lift, Lifted, Choice}
 use Rattle.form_scan.proofs.Full.{Full, Chunk, same-full, then-full, byte-full, done-full, if-full, chunk-full}

@@ -6,6 +6,7 @@ use Rattle.row_table.specs.declared.kinds.Class.{Class}
 use Rattle.row_table.specs.declared.kinds.Class.TheVariants.{Legacy, Vex, Evex}
 use Rattle.row_table.specs.declared.kinds.Fields.{Fields}
 use Rattle.row_table.specs.declared.kinds.Shape.{Shape}
+use Rattle.row_table.specs.Shapes.{sib_wanted}
 use Rattle.row_table.specs.Matching.{shape_at, map_used}
 use Rattle.form_scan.specs.declared.kinds.Stop.{Stop}
 use Rattle.form_scan.specs.declared.kinds.Stop.TheVariants.{Short, Dead}
@@ -15,7 +16,7 @@ use Rattle.form_scan.specs.declared.kinds.Lead.{Lead}
 use Rattle.form_scan.specs.declared.kinds.Head.{Head}
 use Rattle.form_scan.specs.Front.{is_rex, is_segment, is_repeat, in_front}
 use Rattle.form_scan.specs.Payload.{of_rex, of_vex_two, of_vex_three, of_evex}
-use Rattle.form_scan.specs.Shaped.{sib_wanted, disp_size, imm_size, fields_of}
+use Rattle.form_scan.specs.Shaped.{disp_size, imm_size, fields_of}
 
 infixl 10 ◌>>=◌
 abbrev pub ◌>>=◌ : {A B : Type 0} → Result A Stop → (A → Result B Stop) → Result B Stop

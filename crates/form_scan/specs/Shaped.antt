@@ -3,6 +3,7 @@ use Rattle.std.specs.Prelude.{◌≡◌, ◌≤◌, ℕ, ℤ, pos, zero, suc, �
 use Rattle.std.specs.Int.{bit_at, w8, w16, w32, w64, from_le_bytes, cast_signed}
 use Rattle.row_table.specs.declared.kinds.Fields.{Fields}
 use Rattle.row_table.specs.declared.kinds.Shape.{Shape}
+use Rattle.row_table.specs.Shapes.{sib_wanted}
 use Rattle.row_table.specs.Matching.{shape_at}
 use Rattle.form_scan.specs.declared.kinds.Front.{Front}
 use Rattle.form_scan.specs.declared.kinds.Payload.{Payload}
@@ -10,11 +11,6 @@ use Rattle.form_scan.specs.Front.{in_front, all_in_front, front_of}
 use Rattle.form_scan.specs.Payload.{of_rex, of_vex_two, of_vex_three, of_evex}
 
 -- ---- sizes
--- a SIB byte follows ModRM where mod is not 3 and r/m is 4 (Intel SDM volume 2, table 2-2)
-abbrev pub sib_wanted : Option ℕ → Bool
-sib_wanted None = false
-sib_wanted (Some m) = nat_lt m 0xC0 && (m % 8 == 4)
-
 -- with mod 0, a SIB byte with base 5 has a displacement of 4 bytes (Intel SDM volume 2, table 2-3)
 abbrev pub sib_disp : Option ℕ → ℕ
 sib_disp None = 0

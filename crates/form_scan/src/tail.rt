@@ -1,10 +1,10 @@
 //! Reading what follows the opcode.
 ghost use Rattle.std.specs.Prelude.{◌≡◌, ◌≤◌, length, IfOk};
-ghost use Rattle.form_scan.specs.Shaped.{sib_wanted, disp_size, word_size, reg_is_zero, imm_size, number_of, signed_of, fields_of};
+ghost use Rattle.form_scan.specs.Shaped.{disp_size, word_size, reg_is_zero, imm_size, number_of, signed_of, fields_of};
 ghost use Rattle.form_scan.specs.Reading.{Gives, optional_at, chunk_at, tail_at};
 
 use crate::kinds::{Front, Head, Stop};
-use row_table::Fields;
+use row_table::{Fields, wants_sib};
 
 /// A byte where one is wanted: ModRM or SIB.
 #[tactic(auto, unfolding(crate::specs::Reading::optional_at))]
@@ -31,15 +31,6 @@ fn read_chunk(size: u8, bytes: &[u8]) -> Result<(&[u8], &[u8]), Stop>
         return Err(Stop::Short);
     }
     Ok(bytes.split_at(size as usize))
-}
-
-fn wants_sib(modrm: Option<u8>) -> bool
-    ensures { result ≡ sib_wanted modrm }
-{
-    match modrm {
-        None => false,
-        Some(byte) => byte < 0xc0 && byte % 8 == 4,
-    }
 }
 
 /// The size of the displacement.

@@ -8,7 +8,7 @@ use Rattle.row_table.specs.declared.kinds.Decoded.{Decoded}
 use Rattle.row_table.specs.Rows.{rows}
 use Rattle.row_table.specs.Matching.{Matches, matched}
 use Rattle.legacy_decode.specs.Lock.{lock_fits}
-use Rattle.legacy_decode.specs.Spelling.{Spells, IsDecoded, registers_fit, displacement, allowed, spelled_row, spelled_at, spelled}
+use Rattle.legacy_decode.specs.Spelling.{Spells, IsLegacyDecoded, registers_fit, bytes_fit, without_vex, fields_fit, displacement, allowed, spelled_row, spelled_at, spelled}
 
 -- ---- no row is spelled
 pub none-matches : (f : Fields) → ((i : ℕ) → Matches rows f i → ⊥) → (i : ℕ) → Spells f i → ⊥
@@ -24,10 +24,11 @@ pub none-allowed : (f : Fields) (i : ℕ) (r : Row) → slice_get rows i ≡ som
 none-allowed f i r there only refused j s =
     let e : j ≡ i = only j s.matches in
     let lock : lock_fits r f ≡ true = s.lock r (ap (slice_get rows) e ∙ there) in
-    let holds : allowed r f ≡ true = and-both (lock_fits r f) (registers_fit f) lock s.registers in
+    let fields : fields_fit f ≡ true = and-both (registers_fit f) (bytes_fit f && without_vex f) s.registers (and-both (bytes_fit f) (without_vex f) s.bytes s.plain) in
+    let holds : allowed r f ≡ true = and-both (lock_fits r f) (fields_fit f) lock fields in
     let clash : true ≡ false = sym holds ∙ refused in cc
 
-pub none-decoded : (f : Fields) → ((i : ℕ) → Spells f i → ⊥) → (d : Decoded) → (None ≡ some d) ↔ IsDecoded f d
+pub none-decoded : (f : Fields) → ((i : ℕ) → Spells f i → ⊥) → (d : Decoded) → (None ≡ some d) ↔ IsLegacyDecoded f d
 none-decoded f none d = (λ e. absurd (let h : None ≡ some d = e in cc), λ h. absurd (none d.row h.row))
 
 -- ---- the row that is spelled
@@ -36,11 +37,15 @@ some_same row i j a other b = let e : some row ≡ some other = sym a ∙ b in c
 
 pub spells-allowed : (f : Fields) (i : ℕ) (r : Row) → slice_get rows i ≡ some r → Matches rows f i → allowed r f ≡ true → Spells f i
 spells-allowed f i r there matches holds =
-    let w = and_parts (lock_fits r f) (registers_fit f) holds in
+    let w = and_parts (lock_fits r f) (fields_fit f) holds in
+    let v = and_parts (registers_fit f) (bytes_fit f && without_vex f) w.1 in
+    let u = and_parts (bytes_fit f) (without_vex f) v.1 in
     record {
       matches = matches;
       lock = λ q g. ap (λ (x : Row). lock_fits x f) (some_same q i i g r there) ∙ w.0;
-      registers = w.1;
+      registers = v.0;
+      bytes = u.0;
+      plain = u.1;
     }
 
 abbrev instruction : Fields → ℕ → ℤ → Decoded
@@ -51,10 +56,10 @@ decoded_is f i z d a b c =
     λ k. some (let x : Decoded = record { row = sym b k; fields = sym a k; disp = sym c k } in x)
 
 pub some-decoded : (f : Fields) (i : ℕ) (z : ℤ) → z ≡ displacement f → Spells f i → ((j : ℕ) → Matches rows f j → j ≡ i)
-    → (d : Decoded) → (some (instruction f i z) ≡ some d) ↔ IsDecoded f d
+    → (d : Decoded) → (some (instruction f i z) ≡ some d) ↔ IsLegacyDecoded f d
 some-decoded f i z disp spells only d = (
   λ e. let same : instruction f i z ≡ d = cc in
-      subst (IsDecoded f) same (record { fields = refl; row = spells; disp = disp }),
+      subst (IsLegacyDecoded f) same (record { fields = refl; row = spells; disp = disp }),
   λ h. decoded_is f i z d h.fields (only d.row h.row.matches) (h.disp ∙ sym disp),
 )
 

@@ -126,3 +126,32 @@ fn rows_are_spelled_by_the_rules_on_prefixes_and_registers(rt: HostRuntime) {
         assert_eq!(rt; matched(&fields), want, "at {bytes}");
     }
 }
+
+#[test]
+fn fields_that_no_legacy_instruction_has_spell_nothing(rt: HostRuntime) {
+    let xor = plain(0x31, Some(0xff));
+    assert_eq!(rt; matched(&xor), Some(("xor", 0)));
+    let from_sib = Fields {
+        sib: Some(0x24),
+        ..plain(0x31, Some(0x04))
+    };
+    assert_eq!(rt; matched(&from_sib), Some(("xor", 0)));
+    for (what, fields) in [
+        ("without ModRM", plain(0x31, None)),
+        ("ret with ModRM", plain(0xc3, Some(0xc0))),
+        ("without SIB", plain(0x31, Some(0x04))),
+        (
+            "with SIB",
+            Fields {
+                sib: Some(0x24),
+                ..xor
+            },
+        ),
+        ("vvvv", Fields { v: 1, ..xor }),
+        ("a mask", Fields { aaa: 1, ..xor }),
+        ("zeroing", Fields { z: true, ..xor }),
+        ("broadcast", Fields { bc: true, ..xor }),
+    ] {
+        assert_eq!(rt; matched(&fields), None, "{what}");
+    }
+}

@@ -1,5 +1,5 @@
 -- What a row's operands say of the bytes behind its opcode.
-use Rattle.std.specs.Prelude.{ℕ, zero, suc, ◌==◌, nat_lt, nat_le, Bool, true, false, Option, Some, None, if◌then◌else◌}
+use Rattle.std.specs.Prelude.{ℕ, zero, suc, ◌%◌, ◌==◌, nat_lt, nat_le, Bool, true, false, ◌&&◌, Option, Some, None, if◌then◌else◌}
 use Rattle.row_table.specs.declared.kinds.Operands.{Operands}
 use Rattle.row_table.specs.declared.kinds.Operands.TheVariants.{Implied, OpcodeReg, RaxOpcodeReg, OpcodeRegIb, OpcodeRegIv, Ib, Iw, Iz, Jb, Jz, AlIb, RaxIz, AlOb, RaxOv, ObAl, OvRax, EbIb, EvIb, EvIz, GvEvIb, GvEvIz, EvGvIb, GvM, MvGv, M, R, ByteD0, VxHxWxIb, VxHxWxLx, VxWxIb, WxVxIb, HxWxIb, HxUxIb, UxIb, VxMx, MxVx, VxHxMx, MxHxVx, VxHxUx, UxHxVx, VxHxEvIb, EvVxIb, VxRv, GvUx, GvUxIb, VxVm, VxVmHx, VmVx, KxHxWxIb, KxUx, VxKx, KxKx, KxKxKx, KxKxIb, MxKx, KxRv, GvKx}
 use Rattle.row_table.specs.declared.kinds.Form.{Form}
@@ -113,3 +113,8 @@ form_fits Register None = false
 form_fits Register (Some byte) = nat_le 0xC0 byte
 form_fits (Exactly wanted) None = false
 form_fits (Exactly wanted) (Some byte) = byte == wanted
+
+-- a SIB byte follows ModRM where mod is not 3 and r/m is 4 (Intel SDM volume 2, table 2-2)
+abbrev pub sib_wanted : Option ℕ → Bool
+sib_wanted None = false
+sib_wanted (Some m) = nat_lt m 0xC0 && (m % 8 == 4)

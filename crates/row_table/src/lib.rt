@@ -12,6 +12,7 @@ pub use finding::{find, is_used, row, row_count, shape};
 pub use kinds::{
     Align, Class, Decoded, Fields, Level, MaskKind, Operands, Prefix, Row, Shape, Tuple,
 };
+pub use matching::wants_sib;
 pub use operations::{
     BitOp, CoreOp, CrossOp, GatherOp, GprOp, LaneOp, MacOp, MaskOp, Op, StringOp, VectorOp,
     WidthOp, XsaveOp,

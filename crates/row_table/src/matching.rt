@@ -1,6 +1,6 @@
 //! What one row says: its shape, and whether it fits an instruction's fields.
 ghost use Rattle.std.specs.Prelude.{◌≡◌};
-ghost use Rattle.row_table.specs.Shapes.{has_modrm, immediate_of, shape_of, form_of, form_fits};
+ghost use Rattle.row_table.specs.Shapes.{has_modrm, immediate_of, shape_of, form_of, form_fits, sib_wanted};
 ghost use Rattle.row_table.specs.Matching.{digit_fits, w_fits, length_fits, prefix_of_pp, mandatory, fits, IsAt, Stands};
 
 use crate::kinds::{Class, Fields, Form, Operands, Prefix, Row, Shape, Standing};
@@ -209,5 +209,15 @@ pub(crate) fn standing(row: &Row, fields: &Fields) -> Standing
         Standing::Unmarked
     } else {
         Standing::Apart
+    }
+}
+
+/// Whether a SIB byte follows ModRM.
+pub fn wants_sib(modrm: Option<u8>) -> bool
+    ensures { result ≡ sib_wanted modrm }
+{
+    match modrm {
+        None => false,
+        Some(byte) => byte < 0xc0 && byte % 8 == 4,
     }
 }

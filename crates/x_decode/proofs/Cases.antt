@@ -8,9 +8,9 @@ use Rattle.row_table.specs.Rows.{rows}
 use Rattle.form_scan.specs.declared.kinds.Scan.{Scan}
 use Rattle.form_scan.specs.declared.kinds.Scan.TheVariants.{Whole, Short as Cut, Dead}
 use Rattle.form_scan.specs.Shaped.{within_limit, IsWhole, IsCut}
-use Rattle.legacy_decode.specs.Spelling.{IsDecoded}
 use Rattle.x_decode.specs.declared.kinds.Seen.TheVariants.{Instr}
-use Rattle.x_decode.specs.Seeing.{IsInstr, IsShort, IsTooLong, IsBad, InRange}
+use Rattle.x_decode.specs.Seeing.{IsDecoded, IsInstr, IsShort, IsTooLong, IsBad, InRange}
+use Rattle.x_decode.proofs.Classes.{decoded-fields}
 use Rattle.x_decode.proofs.Computing.{whole-some}
 
 -- neither holds
@@ -43,8 +43,8 @@ module _ (bytes : List ℕ) (f : Fields) (n : ℕ) (t : Told bytes (Whole f n)) 
 
   seen-instr : (d : Decoded) → IsDecoded f d → IsInstr bytes d n
   seen-instr d h = record {
-    whole = subst (λ (x : Fields). IsWhole (within_limit bytes) x n) (sym h.fields) ((t.whole f n).0 refl);
-    decoded = subst (λ (x : Fields). IsDecoded x d) (sym h.fields) h;
+    whole = subst (λ (x : Fields). IsWhole (within_limit bytes) x n) (sym (decoded-fields f d h)) ((t.whole f n).0 refl);
+    decoded = subst (λ (x : Fields). IsDecoded x d) (sym (decoded-fields f d h)) h;
   }
 
   within-limit : (n ≤ length bytes) × (n ≤ 15)

@@ -9,13 +9,22 @@ use Rattle.form_scan.specs.declared.kinds.Scan.{Scan}
 use Rattle.form_scan.specs.declared.kinds.Scan.TheVariants.{Whole, Short as Cut, Dead}
 use Rattle.form_scan.specs.Shaped.{within_limit, IsWhole, IsCut}
 use Rattle.form_scan.specs.Scanning.{scanned}
-use Rattle.legacy_decode.specs.Spelling.{IsDecoded, spelled}
+use Rattle.legacy_decode.specs.Spelling.{IsLegacyDecoded, spelled}
 use Rattle.x_decode.specs.declared.kinds.Seen.{Seen}
 use Rattle.x_decode.specs.declared.kinds.Seen.TheVariants.{Instr, Short, TooLong, Bad}
 
+-- by the rules of the class; the table has no row of VEX and EVEX yet
+abbrev pub IsDecodedIn : Class → Fields → Decoded → Type 0
+IsDecodedIn Legacy f d = IsLegacyDecoded f d
+IsDecodedIn Vex f d = ⊥
+IsDecodedIn Evex f d = ⊥
+
+-- the instruction is that of the fields: these fields, a row that they spell, and their displacement
+abbrev pub IsDecoded : Fields → Decoded → Type 0
+IsDecoded f d = IsDecodedIn f.class f d
+
 -- The first n of the first fifteen bytes are an instruction with the fields of `d`. They spell the row of
--- `d`, and its displacement is theirs. The rules of spelling are those of the legacy class, of which all
--- rows are so far.
+-- `d`, and its displacement is theirs.
 pub record IsInstr (bytes : List ℕ) (d : Decoded) (n : ℕ) : Type 0 where
   pub whole : IsWhole (within_limit bytes) d.fields n
   pub decoded : IsDecoded d.fields d
@@ -45,7 +54,7 @@ InRange bytes TooLong = ⊤
 InRange bytes Bad = ⊤
 
 -- ---- the same, computed
--- the instruction that the fields are, by the rules of their class: the table has no row of VEX and EVEX yet
+-- the instruction that the fields are, by the rules of their class
 abbrev pub spelled_in : Class → Fields → Option Decoded
 spelled_in Legacy f = spelled f
 spelled_in Vex f = None

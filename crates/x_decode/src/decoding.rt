@@ -2,8 +2,7 @@
 ghost use Rattle.std.specs.Prelude.{◌≡◌, ◌↔◌, ◌<◌, length, IfSome};
 ghost use Rattle.row_table.specs.declared.kinds.Decoded.{Decoded as AnyDecoded};
 ghost use Rattle.row_table.specs.Rows.{rows};
-ghost use Rattle.legacy_decode.specs.Spelling.{IsDecoded};
-ghost use Rattle.x_decode.specs.Seeing.{IsSeen, spelled_in};
+ghost use Rattle.x_decode.specs.Seeing.{IsDecoded, IsSeen, spelled_in};
 
 use crate::kinds::Seen;
 use form_scan::{Scan, scan};
