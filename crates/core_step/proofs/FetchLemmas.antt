@@ -1,4 +1,4 @@
--- The bytes that a fetch could read, and what a step does with all that it may read.
+-- The bytes that a fetch could read, and what is fetched from all that it may read.
 use Rattle.std.proofs.Common.{◌≡◌, ℕ, zero, suc, ◌+◌, ◌-◌, ◌/◌, ◌%◌, ◌<◌, ◌≤◌, ◌↔◌, inl, inr, List, [], ◌∷◌, ◌++◌, Option, Some, None, refl, sym, ◌∙◌, ap, arith, take, drop, length, add-zero, append-nil, subst, MatchOption}
 use Rattle.std.proofs.lemmas.Bool.{cases_lt}
 use Rattle.std.proofs.lemmas.List.{length-append, length-take-le, length-drop, take_all}
@@ -21,9 +21,9 @@ use Rattle.x_decode.specs.Seeing.{seen, InRange, IsInstr, IsSeen}
 use Rattle.core_step.specs.declared.fetching.Fetched.{Fetched}
 use Rattle.core_step.specs.declared.fetching.Fetched.TheVariants.{Need}
 use Rattle.core_step.specs.declared.machine.Machine.{Machine}
-use Rattle.core_step.specs.Act.{act, act_on, trapped, fetch_fault}
+use Rattle.core_step.specs.Act.{act, act_on}
 use Rattle.core_step.specs.Machine.{state_of}
-use Rattle.core_step.specs.Fetch.{IsRun, IsFetched, IsFetchFit, IsOutcome, NeedsPage, outcome, stopped}
+use Rattle.core_step.specs.Fetch.{IsRun, IsFetched, IsFetchFit, IsOutcome, NeedsPage, fetched, outcome, stopped}
 use Rattle.core_step.proofs.Steps.{IsDenial}
 
 -- there isn't both something and nothing
@@ -129,10 +129,10 @@ unfolding allowed_run
 allowed_run-stop memory kind addr zero miss e = refl
 allowed_run-stop memory kind addr (suc most) miss e = rw (e, allowed_run) refl
 
--- a step, by what is seen in the allowed bytes
-act-is : (s : State) → act s ≡ act_on (seen (allowed_run s.memory Execute s.rip 15)) s
-unfolding act
-act-is s = refl
+-- what is fetched, by what is seen in the allowed bytes and the first that isn't
+fetched-is : (s : State) → fetched s ≡ outcome (seen (allowed_run s.memory Execute s.rip 15)) (first_miss s.memory.perms Execute s.rip 15)
+unfolding fetched
+fetched-is s = refl
 
 -- so many bytes at the instruction pointer could be read
 pub record AtRip (s : State) (table : Table) (count : ℕ) (bytes : List ℕ) : Type 0 where
@@ -158,44 +158,65 @@ first-behind s table count bytes read le =
     ap (first_miss s.memory.perms Execute s.rip) split ∙ first_miss-append s.memory.perms Execute s.rip count (15 - count) ∙ rw allowed refl
 
 -- what is seen in the bytes that could be read is seen in all, unless they are short
-act-known : (s : State) (table : Table) (count : ℕ) (bytes : List ℕ) (what : Seen) → AtRip s table count bytes → count ≤ 15
-    → ((more : List ℕ) → seen (bytes ++ more) ≡ what) → act s ≡ act_on what s
-act-known s table count bytes what read le stays =
-    act-is s ∙ ap (λ (all : List ℕ). act_on (seen all) s) (allowed-bytes s table count bytes read le)
-    ∙ ap (λ (v : Seen). act_on v s) (stays (allowed_run s.memory Execute (s.rip + count) (15 - count)))
+fetched-known : (s : State) (table : Table) (count : ℕ) (bytes : List ℕ) (what : Seen) → AtRip s table count bytes → count ≤ 15
+    → ((more : List ℕ) → seen (bytes ++ more) ≡ what) → fetched s ≡ outcome what (first_miss s.memory.perms Execute s.rip 15)
+fetched-known s table count bytes what read le stays =
+    fetched-is s ∙ ap (λ (all : List ℕ). outcome (seen all) (first_miss s.memory.perms Execute s.rip 15)) (allowed-bytes s table count bytes read le)
+    ∙ ap (λ (v : Seen). outcome v (first_miss s.memory.perms Execute s.rip 15)) (stays (allowed_run s.memory Execute (s.rip + count) (15 - count)))
 
 -- bytes that are short, where no further one is allowed
-act-short : (s : State) (table : Table) (count : ℕ) (bytes : List ℕ) → AtRip s table count bytes → count ≤ 15 → Short ≡ seen bytes
+fetched-short : (s : State) (table : Table) (count : ℕ) (bytes : List ℕ) → AtRip s table count bytes → count ≤ 15 → Short ≡ seen bytes
     → allowed_run s.memory Execute (s.rip + count) (15 - count) ≡ []
-    → act s ≡ trapped (fetch_fault (first_miss s.memory.perms Execute (s.rip + count) (15 - count))) s
-act-short s table count bytes read le short none =
+    → fetched s ≡ stopped (first_miss s.memory.perms Execute (s.rip + count) (15 - count))
+fetched-short s table count bytes read le short none =
     let whole : allowed_run s.memory Execute s.rip 15 ≡ bytes =
     allowed-bytes s table count bytes read le ∙ ap (λ (more : List ℕ). bytes ++ more) none ∙ append-nil bytes in
-    act-is s ∙ ap (λ (all : List ℕ). act_on (seen all) s) whole ∙ ap (λ (v : Seen). act_on v s) (sym short)
-    ∙ ap (λ (miss : Option Miss). trapped (fetch_fault miss) s) (first-behind s table count bytes read le)
+    fetched-is s ∙ ap (λ (all : List ℕ). outcome (seen all) (first_miss s.memory.perms Execute s.rip 15)) whole
+    ∙ ap (λ (v : Seen). outcome v (first_miss s.memory.perms Execute s.rip 15)) (sym short)
+    ∙ ap stopped (first-behind s table count bytes read le)
 
 -- short bytes up to one that isn't allowed
-act-stopped : (s : State) (table : Table) (count : ℕ) (bytes : List ℕ) (miss : Miss) → AtRip s table count bytes → count < 15 → Short ≡ seen bytes
-    → IsDenial miss → blocked table Execute (s.rip + count) 1 ≡ Some miss → act s ≡ trapped (fetch_fault (Some miss)) s
-act-stopped s table count bytes miss read below short there stop =
+fetched-stopped : (s : State) (table : Table) (count : ℕ) (bytes : List ℕ) (miss : Miss) → AtRip s table count bytes → count < 15 → Short ≡ seen bytes
+    → IsDenial miss → blocked table Execute (s.rip + count) 1 ≡ Some miss → stopped (Some miss) ≡ fetched s
+fetched-stopped s table count bytes miss read below short there stop =
     let next : miss_at s.memory.perms Execute (s.rip + count) ≡ Some miss = rw read.perms (blocked-missed table Execute (s.rip + count) miss there stop) in
-    act-short s table count bytes read (omega arith) short (allowed_run-stop s.memory Execute (s.rip + count) (15 - count) miss next)
-    ∙ ap (λ (m : Option Miss). trapped (fetch_fault m) s) (first_miss_at_once s.memory.perms Execute (s.rip + count) (15 - count) miss (omega arith) next)
+    sym (fetched-short s table count bytes read (omega arith) short (allowed_run-stop s.memory Execute (s.rip + count) (15 - count) miss next)
+    ∙ ap stopped (first_miss_at_once s.memory.perms Execute (s.rip + count) (15 - count) miss (omega arith) next))
 
--- what comes of the bytes that could be read is what a step does; fifteen bytes are never short
+-- what comes of the bytes that could be read is what is fetched from all; fifteen bytes are never short
 outcome-is : (s : State) (table : Table) (count : ℕ) (stop : Option Miss) (bytes : List ℕ) (what : Seen) → AtRip s table count bytes
     → count ≤ 15 → IsRun table s.rip 15 count stop → what ≡ seen bytes → ((what ≡ Short → ⊥) → (more : List ℕ) → seen (bytes ++ more) ≡ what)
     → (what ≡ Short → length bytes < 15) → IsFetched s (outcome what stop)
-outcome-is s table count stop bytes (Instr d len) read le run is stays few = act-known s table count bytes _ read le (stays (λ e. cc))
-outcome-is s table count stop bytes TooLong read le run is stays few = act-known s table count bytes _ read le (stays (λ e. cc))
-outcome-is s table count stop bytes Bad read le run is stays few = act-known s table count bytes _ read le (stays (λ e. cc))
+outcome-is s table count stop bytes (Instr d len) read le run is stays few = sym (fetched-known s table count bytes _ read le (stays (λ e. cc)))
+outcome-is s table count stop bytes TooLong read le run is stays few = sym (fetched-known s table count bytes _ read le (stays (λ e. cc)))
+outcome-is s table count stop bytes Bad read le run is stays few = sym (fetched-known s table count bytes _ read le (stays (λ e. cc)))
 outcome-is s table count None bytes Short read le run is stays few =
     let long : length bytes ≡ count = ap length read.shown ∙ length-bytes_at s.memory.byte s.rip count in
     absurd (omega (arith, long, few refl, run.end))
-outcome-is s table count (Some (Unmapped addr)) bytes Short read le run is stays few = act-stopped s table count bytes _ read run.end.0 is (λ slot e. cc) run.end.1
-outcome-is s table count (Some (Denied addr)) bytes Short read le run is stays few = act-stopped s table count bytes _ read run.end.0 is (λ slot e. cc) run.end.1
-outcome-is s table count (Some (NonCanonical addr)) bytes Short read le run is stays few = act-stopped s table count bytes _ read run.end.0 is (λ slot e. cc) run.end.1
+outcome-is s table count (Some (Unmapped addr)) bytes Short read le run is stays few = fetched-stopped s table count bytes _ read run.end.0 is (λ slot e. cc) run.end.1
+outcome-is s table count (Some (Denied addr)) bytes Short read le run is stays few = fetched-stopped s table count bytes _ read run.end.0 is (λ slot e. cc) run.end.1
+outcome-is s table count (Some (NonCanonical addr)) bytes Short read le run is stays few = fetched-stopped s table count bytes _ read run.end.0 is (λ slot e. cc) run.end.1
 outcome-is s table count (Some (Away slot)) bytes Short read le run is stays few = tt
+
+-- no page is needed on whole memory
+never-needs : (what : Seen) (stop : Option Miss) (slot : ℕ) → ((other : ℕ) → stop ≡ Some (Away other) → ⊥) → outcome what stop ≡ Need slot → ⊥
+never-needs (Instr d len) stop slot there e = cc
+never-needs TooLong stop slot there e = cc
+never-needs Bad stop slot there e = cc
+never-needs Short None slot there e = cc
+never-needs Short (Some (Unmapped addr)) slot there e = cc
+never-needs Short (Some (Denied addr)) slot there e = cc
+never-needs Short (Some (NonCanonical addr)) slot there e = cc
+never-needs Short (Some (Away other)) slot there e = there other refl
+
+pub fetched-never_needs : (s : State) (slot : ℕ) → fetched s ≡ Need slot → ⊥
+fetched-never_needs s slot e =
+    never-needs _ _ slot (λ other. first_miss_never_away s.memory.perms Execute s.rip 15 other) (sym (fetched-is s) ∙ e)
+
+-- a step, by what is fetched
+pub act-fetched : (s : State) (answer : Fetched) → answer ≡ fetched s → act s ≡ act_on answer s
+unfolding act
+act-fetched s answer is = ap (λ (v : Fetched). act_on v s) (sym is)
 
 -- a fetch that stops is no instruction
 stopped-fits : (stop : Option Miss) → IsFetchFit (stopped stop)
@@ -289,13 +310,14 @@ pub record IsRead (m : Machine) (into : List ℕ) (count : ℕ) (stop : Option M
 
 pub record Fetches (m : Machine) (answer : Fetched) : Type 0 where
   pub whole : (w : Swap) → IsFetched (state_of m w) answer
+  pub never : (w : Swap) (slot : ℕ) → fetched (state_of m w) ≡ Need slot → ⊥
   pub need : (w : Swap) (slot : ℕ) → (answer ≡ Need slot) ↔ NeedsPage (table_of m.pages) (byte_of m.pages w) m.rip slot
   pub fits : IsFetchFit answer
 
 pub fetches : (m : Machine) (into : List ℕ) (count : ℕ) (stop : Option Miss) (what : Seen) (answer : Fetched) → IsRead m into count stop
     → IsSeen (take count into) what → answer ≡ outcome what stop → Fetches m answer
 unfolding memory_of
-fetches m into count stop what answer read is e = subst (Fetches m) (sym e) (record { whole = whole; need = need; fits = fits })
+fetches m into count stop what answer read is e = subst (Fetches m) (sym e) (record { whole = whole; never = λ w. fetched-never_needs (state_of m w); need = need; fits = fits })
   where
     run : IsRun (table_of m.pages) m.rip 15 count stop
     run = rw read.most at read.run

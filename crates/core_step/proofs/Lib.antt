@@ -3,4 +3,5 @@ pub mod Steps
 pub mod Parts
 pub mod Local
 pub mod Frame
+pub mod PageCounts
 pub mod FetchLemmas

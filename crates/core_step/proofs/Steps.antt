@@ -15,19 +15,15 @@ use Rattle.row_table.specs.Rows.{rows}
 use Rattle.core_step.specs.declared.acted.Acted.{Acted}
 use Rattle.core_step.specs.declared.acted.Acted.TheVariants.{Done, Call, Trap, Need}
 use Rattle.core_step.specs.declared.machine.Machine.{Machine}
-use Rattle.core_step.specs.declared.kinds.Use.{Use}
-use Rattle.core_step.specs.declared.kinds.Use.TheVariants.{Read, Write, Update}
 use Rattle.core_step.specs.declared.kinds.Instruction.{Instruction}
 use Rattle.core_step.specs.declared.kinds.Outcome.{Outcome}
 use Rattle.core_step.specs.declared.kinds.Plan.{Plan}
 use Rattle.machine_state.specs.declared.kinds.Access.{Access}
 use Rattle.machine_state.specs.declared.kinds.Stop.{Stop}
-use Rattle.core_step.specs.Operands.{use_of}
 use Rattle.core_step.specs.Plan.{plan_of, plan_accesses}
 use Rattle.core_step.specs.Access.{access_fault, fault_or, first_fault, acted_by_miss}
-use Rattle.core_step.specs.Fits.{ActedFits}
-use Rattle.core_step.specs.Act.{After, trapped, number_for, destination_number, gprs_left, byte_left, steps_after, completed, plan_after, unless, performed_as, performed_row, performed}
-use Rattle.core_step.specs.Machine.{after_of, state_of, IsWhole, IsKept, accesses, accesses_by, away_in}
+use Rattle.core_step.specs.Act.{After, trapped, gprs_left, byte_left, steps_after, completed, plan_after, unless, performed_as, performed_row, performed}
+use Rattle.core_step.specs.Machine.{after_of, state_of, IsWhole, accesses, accesses_by, away_in}
 
 -- ---- a walk stops at the first fault on whole memory, or at a page that is away
 -- a miss that isn't that of a page that is away
@@ -118,7 +114,7 @@ pub whole-stopped : (d : Decoded) (len : ℕ) (m : Machine) (kind : Kind) (miss 
 whole-stopped d len m kind (Unmapped addr) h = λ w. sym (h w (λ slot e. cc))
 whole-stopped d len m kind (Denied addr) h = λ w. sym (h w (λ slot e. cc))
 whole-stopped d len m kind (NonCanonical addr) h = λ w. sym (h w (λ slot e. cc))
-whole-stopped d len m kind (Away slot) h = tt
+whole-stopped d len m kind (Away slot) h = λ w. refl
 
 -- a stop needs a page exactly where its miss is that the page is away
 pub stop-needs : (kind : Kind) (miss : Miss) (slot : ℕ) → (acted_by_miss kind miss ≡ Need slot) ↔ (away_in miss ≡ Some slot)
@@ -170,33 +166,3 @@ state-is s t gprs flags rip extended fs gs steps perms byte = λ k. record {
   steps = steps k;
   memory = record { perms = perms k; byte = byte k };
 }
-
--- no number goes to a destination where there is none
-number_for-none : (usage : Use) → number_for usage None ≡ None
-number_for-none Read = refl
-number_for-none Write = refl
-number_for-none Update = refl
-
--- the same of an outcome
-pub destination_number-none : (i : Instruction) (o : Outcome) → o.destination ≡ None → destination_number i o ≡ None
-destination_number-none i o none = ap (number_for (use_of i.op)) none ∙ number_for-none (use_of i.op)
-
--- without numbers the registers stay
-pub gprs_left-none : (i : Instruction) (o : Outcome) (gprs : List ℕ) → o.destination ≡ None → o.third ≡ None → o.stack ≡ None
-    → gprs_left i o gprs ≡ gprs
-unfolding gprs_left
-gprs_left-none i o gprs destination third stack = rw (destination_number-none i o destination, third, stack) refl
-
--- an answer that isn't Need keeps what it has to keep
-pub kept-is : (acted : Acted) (i : Instruction) (o : Outcome) (old new : Machine) → ActedFits acted o old.flags
-    → new.gprs ≡ gprs_left i o old.gprs → new.flags ≡ o.flags → (acted ≡ o.acted) → new.steps ≡ steps_after o.acted old.steps
-    → (destination_number i o ≡ None → new.pages ≡ old.pages) → IsKept old new acted
-kept-is Done i o old new fits gprs flags is steps pages = tt
-kept-is Call i o old new fits gprs flags is steps pages = tt
-kept-is (Need slot) i o old new fits gprs flags is steps pages = absurd fits
-kept-is (Trap fault) i o old new fits gprs flags is steps pages =
-    let gprs_stay : new.gprs ≡ old.gprs = gprs ∙ gprs_left-none i o old.gprs fits.0 fits.1 fits.2 in
-    let flags_stay : new.flags ≡ old.flags = flags ∙ fits.3 in
-    let steps_stay : new.steps ≡ old.steps = steps ∙ ap (λ (a : Acted). steps_after a old.steps) (sym is) in
-    let pages_stay : new.pages ≡ old.pages = pages (destination_number-none i o fits.0) in
-    λ k. record { gprs = gprs_stay k; flags = flags_stay k; rip = new.rip; pages = pages_stay k; steps = steps_stay k }

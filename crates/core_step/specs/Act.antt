@@ -1,21 +1,17 @@
 -- A step of the machine, but for the answer of a system call and for the signal of a fault.
 use Rattle.std.specs.Prelude.{ℕ, ◌+◌, ◌/◌, ◌^◌, true, false, if◌then◌else◌, List, Option, Some, None, slice_get, slice_index, slice_set}
-use Rattle.machine_state.specs.declared.kinds.Kind.TheVariants.{Execute}
-use Rattle.machine_state.specs.declared.kinds.Miss.{Miss}
-use Rattle.machine_state.specs.declared.kinds.Miss.TheVariants.{Unmapped, Denied, NonCanonical, Away}
 use Rattle.gpr_flags.specs.declared.kinds.Fault.{Fault}
-use Rattle.gpr_flags.specs.declared.kinds.Fault.TheVariants.{Undefined, General, Page}
-use Rattle.machine_state.specs.Memory.{first_miss, allowed_run, written, number_at, number_bytes}
+use Rattle.gpr_flags.specs.declared.kinds.Fault.TheVariants.{Undefined, General}
+use Rattle.machine_state.specs.Memory.{written, number_at, number_bytes}
 use Rattle.machine_state.specs.State.{State}
 use Rattle.gpr_flags.specs.Registers.{RSP, with_register}
 use Rattle.row_table.specs.declared.kinds.Row.{Row}
 use Rattle.row_table.specs.declared.kinds.Decoded.{Decoded}
 use Rattle.row_table.specs.Rows.{rows}
-use Rattle.x_decode.specs.declared.kinds.Seen.{Seen}
-use Rattle.x_decode.specs.declared.kinds.Seen.TheVariants.{Instr, Short, TooLong, Bad}
-use Rattle.x_decode.specs.Seeing.{seen}
 use Rattle.core_step.specs.declared.acted.Acted.{Acted}
-use Rattle.core_step.specs.declared.acted.Acted.TheVariants.{Done, Trap}
+use Rattle.core_step.specs.declared.acted.Acted.TheVariants.{Done, Trap, Need}
+use Rattle.core_step.specs.declared.fetching.Fetched.{Fetched}
+use Rattle.core_step.specs.declared.fetching.Fetched.TheVariants.{Instr, Trap as Faults, Need as Needs}
 use Rattle.core_step.specs.declared.kinds.Size.{Size}
 use Rattle.core_step.specs.declared.kinds.Operand.{Operand}
 use Rattle.core_step.specs.declared.kinds.Operand.TheVariants.{Absent, Register, HighByte, Memory, Number}
@@ -33,6 +29,7 @@ use Rattle.core_step.specs.Strings.{strings_left}
 use Rattle.core_step.specs.Pair.{is_misaligned, pair_left}
 use Rattle.core_step.specs.Plan.{plan_of, plan_accesses}
 use Rattle.core_step.specs.Result.{outcome_of}
+use Rattle.core_step.specs.Fetch.{fetched}
 
 -- how a step ends, and the state that it leaves
 pub record After : Type 0 where
@@ -165,22 +162,12 @@ unfoldable pub performed : Decoded → ℕ → State → After
 performed d len s = performed_row (slice_get rows d.row) d len s
 
 -- ---- a step
--- the fault of a fetch whose bytes are short, by the first byte that isn't allowed, which is never Away: #PF names it
--- (SDM volume 3, 4.7); a byte that isn't canonical is #GP, and so are fifteen bytes that don't end (SDM volume 3, 6.15)
-abbrev pub fetch_fault : Option Miss → Fault
-fetch_fault None = General
-fetch_fault (Some (Unmapped addr)) = Page addr false true false
-fetch_fault (Some (Denied addr)) = Page addr false true true
-fetch_fault (Some (NonCanonical addr)) = General
-fetch_fault (Some (Away slot)) = General
-
--- what comes of the bytes at the instruction pointer
-abbrev pub act_on : Seen → State → After
+-- what comes of a fetch; from whole memory none needs a page
+abbrev pub act_on : Fetched → State → After
 act_on (Instr d len) s = performed d len s
-act_on Short s = trapped (fetch_fault (first_miss s.memory.perms Execute s.rip 15)) s
-act_on TooLong s = trapped General s
-act_on Bad s = trapped Undefined s
+act_on (Faults fault) s = trapped fault s
+act_on (Needs slot) s = record { acted = Need slot; state = s }
 
--- a step, by the bytes from the instruction pointer up to the first that isn't allowed, at most fifteen
+-- a step: an instruction is fetched and performed
 unfoldable pub act : State → After
-act s = act_on (seen (allowed_run s.memory Execute s.rip 15)) s
+act s = act_on (fetched s) s

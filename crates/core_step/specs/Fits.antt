@@ -1,6 +1,7 @@
 -- What holds of every instruction that is found, and of what comes of it.
 use Rattle.std.specs.Prelude.{◌≡◌, ◌<◌, None, ⊤}
 use Rattle.gpr_flags.specs.declared.kinds.Flags.{Flags}
+use Rattle.row_table.specs.declared.kinds.Fields.{Fields}
 use Rattle.core_step.specs.declared.acted.Acted.{Acted}
 use Rattle.core_step.specs.declared.acted.Acted.TheVariants.{Done, Call, Trap, Need}
 use Rattle.core_step.specs.declared.kinds.Operand.{Operand}
@@ -9,6 +10,12 @@ use Rattle.core_step.specs.declared.kinds.Instruction.{Instruction}
 use Rattle.core_step.specs.declared.kinds.Plan.{Plan}
 use Rattle.core_step.specs.declared.kinds.Plan.TheVariants.{Plain, OnStrings, OnPair}
 use Rattle.core_step.specs.declared.kinds.Outcome.{Outcome}
+
+-- the numbers of general registers have one bit above those in ModRM, SIB and the opcode (SDM volume 2, 2.2.1.2)
+pub record RegistersFit (f : Fields) : Type 0 where
+  pub r : f.r < 2
+  pub x : f.x < 2
+  pub b : f.b < 2
 
 -- the numbers of registers are below 16, and those of high bytes below 4
 abbrev pub OperandFits : Operand → Type 0

@@ -7,8 +7,9 @@ pub mod Access
 pub mod Strings
 pub mod Pair
 pub mod Plan
+pub mod Pages
 pub mod Result
-pub mod Act
 pub mod Fetch
+pub mod Act
 pub mod Kept
 pub mod Machine

@@ -1,5 +1,5 @@
 -- The state that a machine stands for, and what the calls on it do with it.
-use Rattle.std.specs.Prelude.{ℕ, ◌≡◌, ◌+◌, ◌/◌, ◌<◌, ◌≤◌, ◌⊎◌, ⊤, Option, Some, None, List, [], slice_get}
+use Rattle.std.specs.Prelude.{ℕ, ◌≡◌, ◌+◌, ◌/◌, ◌<◌, ◌≤◌, ◌⊎◌, Option, Some, None, List, [], slice_get}
 use Rattle.std.specs.List.{All}
 use Rattle.machine_state.specs.declared.kinds.Kind.TheVariants.{Write}
 use Rattle.machine_state.specs.declared.kinds.Miss.{Miss}
@@ -12,7 +12,7 @@ use Rattle.row_table.specs.declared.kinds.Decoded.{Decoded}
 use Rattle.row_table.specs.Rows.{rows}
 use Rattle.core_step.specs.declared.machine.Machine.{Machine}
 use Rattle.core_step.specs.declared.acted.Acted.{Acted}
-use Rattle.core_step.specs.declared.acted.Acted.TheVariants.{Done, Call, Trap, Need}
+use Rattle.core_step.specs.declared.acted.Acted.TheVariants.{Need}
 use Rattle.machine_state.specs.declared.kinds.Access.{Access}
 use Rattle.machine_state.specs.declared.kinds.Stop.{Stop}
 use Rattle.core_step.specs.Plan.{plan_of, plan_accesses}
@@ -25,8 +25,8 @@ state_of m w = record {
   flags = m.flags;
   rip = m.rip;
   extended = initial_extended;
-  fs = 0;
-  gs = 0;
+  fs = m.fs;
+  gs = m.gs;
   steps = m.steps;
   memory = memory_of m.pages w;
 }
@@ -35,17 +35,11 @@ state_of m w = record {
 abbrev pub after_of : Acted → Machine → Swap → After
 after_of acted m w = record { acted = acted; state = state_of m w }
 
--- an answer that isn't Need is that of the instruction on whole memory, and the machine has its state
+-- an answer that isn't Need is that of the instruction on whole memory, and the machine has its state; where a page is needed,
+-- the same instruction, performed from what was left, gives the same step
 abbrev pub IsWhole : Decoded → ℕ → Machine → Machine → Acted → Type 0
-IsWhole d len old new (Need slot) = ⊤
+IsWhole d len old new (Need slot) = (w : Swap) → performed d len (state_of new w) ≡ performed d len (state_of old w)
 IsWhole d len old new acted = (w : Swap) → after_of acted new w ≡ performed d len (state_of old w)
-
--- a page that is needed leaves the machine as it was, and so does a fault, but for the instruction pointer
-abbrev pub IsKept : Machine → Machine → Acted → Type 0
-IsKept old new Done = ⊤
-IsKept old new Call = ⊤
-IsKept old new (Trap fault) = new ≡ record old { rip = new.rip }
-IsKept old new (Need slot) = new ≡ old
 
 -- ---- the access list of an instruction
 abbrev pub accesses_by : Option Row → Decoded → ℕ → State → List Access

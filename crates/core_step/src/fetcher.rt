@@ -2,7 +2,7 @@
 ghost use Rattle.std.specs.Prelude.{◌≡◌, ◌<◌, ℕ, length, vec_len, slice_index_or, IfOk};
 ghost use Rattle.core_step.specs.Fetch.{IsOutcome};
 
-use crate::fetching::{Fetched, outcome};
+use crate::fetching::{Fetched, fetch_outcome};
 use gpr_flags::Fault;
 use std::alloc::{AllocError, Global};
 use std::marker::Model;
@@ -28,7 +28,7 @@ impl Sighting {
         own.copy_from_slice(bytes);
         Sighting {
             bytes: own,
-            fetched: outcome(decode(&own), None),
+            fetched: fetch_outcome(decode(&own), None),
         }
     }
 

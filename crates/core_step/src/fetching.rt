@@ -4,7 +4,7 @@ ghost use Rattle.machine_state.specs.Memory.{Swap, bytes_at};
 ghost use Rattle.guest_pages.specs.Table.{blocked};
 ghost use Rattle.guest_pages.specs.Pages.{table_of, byte_of};
 ghost use Rattle.guest_pages.specs.Changes.{IsShown};
-ghost use Rattle.core_step.specs.Fetch.{IsRun, stopped as stopped_by, outcome as outcome_of};
+ghost use Rattle.core_step.specs.Fetch.{IsRun, stopped as stopped_by, outcome};
 
 use gpr_flags::Fault;
 use guest_pages::Pages;
@@ -95,7 +95,7 @@ fn read_rest(pages: &Pages, addr: u64, into: &mut [u8], here: usize) -> Run
     }
 }
 
-// What comes of a byte that can't be had, where those before it are short.
+// What comes of bytes that are short, by what keeps the next one from being had.
 fn stopped(stop: Option<Miss>) -> Fetched
     ensures { result ≡ stopped_by stop }
 {
@@ -118,9 +118,9 @@ fn stopped(stop: Option<Miss>) -> Fetched
     }
 }
 
-// What comes of bytes by what they spell, and of the next one, which can't be had.
-pub(crate) fn outcome(seen: Seen, stop: Option<Miss>) -> Fetched
-    ensures { result ≡ outcome_of seen stop }
+// What comes of bytes by what they spell, and by what keeps the next one from being had.
+pub(crate) fn fetch_outcome(seen: Seen, stop: Option<Miss>) -> Fetched
+    ensures { result ≡ outcome seen stop }
 {
     match seen {
         Seen::Instr(d, len) => Fetched::Instr(d, len),

@@ -5,22 +5,23 @@ ghost use Rattle.guest_pages.specs.Table.{blocked};
 ghost use Rattle.guest_pages.specs.Pages.{table_of, byte_of};
 ghost use Rattle.guest_pages.specs.Walk.{walk};
 ghost use Rattle.guest_pages.specs.Changes.{KeepsTable};
-ghost use Rattle.legacy_decode.specs.Spelling.{IsDecoded};
 ghost use Rattle.row_table.specs.Rows.{rows};
+ghost use Rattle.x_decode.specs.Seeing.{IsDecoded};
 ghost use Rattle.string_unit.specs.Strings.{string_accesses};
 ghost use Rattle.core_step.specs.Size.{bytes_in};
 ghost use Rattle.core_step.specs.Access.{accesses_of};
 ghost use Rattle.core_step.specs.Strings.{source_of, destination_of, strings_access, iterated, strings_left};
 ghost use Rattle.core_step.specs.Pair.{pair_bytes, pair_access, pair_left};
 ghost use Rattle.core_step.specs.Plan.{plan_accesses};
-ghost use Rattle.core_step.specs.Act.{outcome_in, completed, pair_after, plan_after, steps_after, gprs_left, byte_left, destination_number};
+ghost use Rattle.core_step.specs.Pages.{TouchesAtMost, fetch_accesses};
+ghost use Rattle.core_step.specs.Act.{outcome_in, completed, pair_after, plan_after, steps_after, gprs_left, byte_left};
 ghost use Rattle.core_step.specs.Fits.{InstructionFits, PlanFits};
-ghost use Rattle.core_step.specs.Fetch.{NeedsPage, IsFetched, IsFetchFit};
-ghost use Rattle.core_step.specs.Machine.{IsWhole, IsKept, IsLocal, IsFramed, accesses, needed, state_of, after_of};
+ghost use Rattle.core_step.specs.Fetch.{NeedsPage, IsFetched, IsFetchFit, fetched};
+ghost use Rattle.core_step.specs.Machine.{IsWhole, IsLocal, IsFramed, accesses, needed, state_of, after_of};
 
 use crate::acted::Acted;
 use crate::fetcher::Fetcher;
-use crate::fetching::{Fetched, outcome as fetched, read_run};
+use crate::fetching::{Fetched, fetch_outcome, read_run};
 use crate::kinds::{Instruction, Outcome, PairPlan, Plan, StringPlan};
 use crate::operands::destination_use;
 use crate::pair::{exchange_memory, exchange_registers, is_equal, is_misaligned, load};
@@ -34,50 +35,59 @@ use machine_state::Kind;
 use row_table::{Decoded, row};
 use x_decode::{LIMIT, decode};
 
-/// The processor with its memory: general registers, flags, instruction pointer, pages, and the number of completed
-/// steps.
+/// The processor with its memory: general registers, flags, instruction pointer, pages, the bases of the segments FS and
+/// GS, and the number of completed steps.
 #[derive(Drop)]
 pub struct Machine {
     pub gprs: Gprs,
     pub flags: Flags,
     pub rip: u64,
     pub pages: Pages,
+    pub fs: u64,
+    pub gs: u64,
     pub steps: u64,
 }
 
 impl Machine {
     /// Fetches the instruction at `rip`. After `Need` the caller brings the page and fetches again.
     pub fn fetch(&self) -> Fetched
+        // An answer that isn't Need is what the written machine fetches, and that never needs a page.
         ensures whole { (w : Swap) → IsFetched (state_of self.now w) result }
+        ensures never { (w : Swap) (slot : ℕ) → fetched (state_of self.now w) ≡ Fetched.Need slot → ⊥ }
         // Exactly where the page in that slot is needed before the instruction can be told.
         ensures need { (w : Swap) (slot : ℕ) → (result ≡ Fetched.Need slot)
             ↔ NeedsPage (table_of self.now.pages) (byte_of self.now.pages w) self.now.rip slot }
         ensures fits { IsFetchFit result }
+        // It reads from at most two pages.
+        ensures few { TouchesAtMost 2 (fetch_accesses self.now.rip) }
     {
         let mut bytes = [0; LIMIT];
         let run = read_run(&self.pages, self.rip, &mut bytes);
-        fetched(decode(&bytes[..run.count]), run.stop)
+        fetch_outcome(decode(&bytes[..run.count]), run.stop)
     }
 
     /// The same by a fetcher, which keeps what came of fetches.
     pub fn fetch_by<'f>(&self, fetcher: &'f mut Fetcher) -> &'f Fetched
         ensures whole { (w : Swap) → IsFetched (state_of self.now w) result.now }
+        ensures never { (w : Swap) (slot : ℕ) → fetched (state_of self.now w) ≡ Fetched.Need slot → ⊥ }
         ensures need { (w : Swap) (slot : ℕ) → (result.now ≡ Fetched.Need slot)
             ↔ NeedsPage (table_of self.now.pages) (byte_of self.now.pages w) self.now.rip slot }
         ensures fits { IsFetchFit result.now }
+        ensures few { TouchesAtMost 2 (fetch_accesses self.now.rip) }
     {
         let mut bytes = [0; LIMIT];
         let run = read_run(&self.pages, self.rip, &mut bytes);
         if run.count == bytes.len() {
             fetcher.recall(self.rip, &bytes)
         } else {
-            fetcher.hold(fetched(decode(&bytes[..run.count]), run.stop))
+            fetcher.hold(fetch_outcome(decode(&bytes[..run.count]), run.stop))
         }
     }
 
     /// Performs an instruction of `len` bytes at `rip`: one step, but for the answer of a system call and for the signal
     /// of a fault. The caller counts the step of a `Call` when it is answered, and of a `Trap` when the signal is
-    /// delivered or ends the program. After `Need` it brings the page and performs the same instruction.
+    /// delivered or ends the program. After `Need` it brings the page and performs the same instruction, which gives the
+    /// same step from what was left.
     pub fn perform(&mut self, d: &Decoded, len: u8) -> Acted
         requires spells { IsDecoded d.now.fields d.now }
         requires some { 1 ≤ len }
@@ -88,9 +98,10 @@ impl Machine {
         // before one that isn't allowed.
         ensures need { (w : Swap) (slot : ℕ) → (result ≡ Acted.Need slot)
             ↔ (needed (walk (table_of self.old.pages) (accesses d.now len (state_of self.old w))) ≡ Some slot) }
-        ensures kept { IsKept self.old self.new result }
         ensures pages { KeepsTable self.old.pages self.new.pages }
         ensures counted { self.new.steps ≡ steps_after result self.old.steps }
+        // The access list touches at most four pages.
+        ensures few { (w : Swap) → TouchesAtMost 4 (accesses d.now len (state_of self.old w)) }
         // Memories that agree on the access list give the same.
         ensures local { (w : Swap) → IsLocal d.now len (state_of self.old w) }
         // A byte outside of its write accesses stays.
@@ -110,7 +121,6 @@ impl Machine {
         requires room { self.old.steps < 2 ^ 64 - 1 }
         ensures after { (w : Swap) → after_of result self.new w ≡ plan_after plan.now (state_of self.old w) }
         ensures own { (slot : ℕ) → result ≡ Acted.Need slot → ⊥ }
-        ensures kept { IsKept self.old self.new result }
         ensures pages { KeepsTable self.old.pages self.new.pages }
         ensures counted { self.new.steps ≡ steps_after result self.old.steps }
     {
@@ -172,7 +182,6 @@ impl Machine {
         requires room { self.old.steps < 2 ^ 64 - 1 }
         ensures after { (w : Swap) → after_of result self.new w ≡ pair_after i.now (state_of self.old w) }
         ensures own { (slot : ℕ) → result ≡ Acted.Need slot → ⊥ }
-        ensures kept { IsKept self.old self.new result }
         ensures pages { KeepsTable self.old.pages self.new.pages }
         ensures counted { self.new.steps ≡ steps_after result self.old.steps }
     {
@@ -208,7 +217,6 @@ impl Machine {
         ensures after { (w : Swap) → after_of result self.new w
             ≡ completed i.now (outcome_in i.now (state_of self.old w)) (state_of self.old w) }
         ensures own { (slot : ℕ) → result ≡ Acted.Need slot → ⊥ }
-        ensures kept { IsKept self.old self.new result }
         ensures pages { KeepsTable self.old.pages self.new.pages }
         ensures counted { self.new.steps ≡ steps_after result self.old.steps }
     {
@@ -231,9 +239,10 @@ impl Machine {
         ensures byte { (w : Swap) → byte_of self.new.pages w ≡ byte_left i.now o.now (byte_of self.old.pages w) }
         ensures flags { self.new.flags ≡ o.now.flags }
         ensures rip { self.new.rip ≡ o.now.rip }
+        ensures fs { self.new.fs ≡ self.old.fs }
+        ensures gs { self.new.gs ≡ self.old.gs }
         ensures steps { self.new.steps ≡ steps_after o.now.acted self.old.steps }
         ensures pages { KeepsTable self.old.pages self.new.pages }
-        ensures unwritten { destination_number i.now o.now ≡ None → self.new.pages ≡ self.old.pages }
     {
         move_stack(&mut self.gprs, o.stack);
         put_register(&mut self.gprs, i.third, i.third_size, o.third);

@@ -2,7 +2,7 @@
 ghost use Rattle.std.specs.Prelude.{◌≡◌, ◌<◌, ◌≤◌};
 ghost use Rattle.machine_state.specs.Memory.{Swap};
 ghost use Rattle.core_step.specs.Operands.{rsp_for, instruction_as, instruction_of, source_size_of};
-ghost use Rattle.core_step.specs.Fits.{InstructionFits, PlanFits};
+ghost use Rattle.core_step.specs.Fits.{RegistersFit, InstructionFits, PlanFits};
 ghost use Rattle.core_step.specs.Strings.{strings_of};
 ghost use Rattle.core_step.specs.Pair.{pair_of};
 ghost use Rattle.core_step.specs.Plan.{plan_of as plan_of_row};
@@ -17,28 +17,25 @@ use crate::operands::{
 };
 use crate::pair::half;
 use crate::resolving::{destination, source, third};
-use gpr_flags::Gprs;
 use row_table::{CoreOp, Decoded, Op, Row, StringOp};
 
-// What addresses are made of. No instruction sets the bases of FS and GS yet.
-fn bases(op: Op, size: Size, next: u64, gprs: &Gprs) -> Bases
-    ensures { result ≡ record { rsp = rsp_for op size gprs.now; next = next; fs = 0; gs = 0 } }
-{
-    Bases {
-        rsp: rsp_in_addresses(op, size, gprs),
-        next,
-        fs: 0,
-        gs: 0,
-    }
-}
-
 impl Machine {
+    // What addresses are made of.
+    fn bases(&self, op: Op, size: Size, next: u64) -> Bases
+        ensures { result ≡ record { rsp = rsp_for op size self.now.gprs; next = next; fs = self.now.fs; gs = self.now.gs } }
+    {
+        Bases {
+            rsp: rsp_in_addresses(op, size, &self.gprs),
+            next,
+            fs: self.fs,
+            gs: self.gs,
+        }
+    }
+
     // The instruction of a row and its fields.
     #[tactic(auto, unfolding(crate::specs::Operands::instruction_of))]
     fn instruction(&self, row: &Row, d: &Decoded, len: u8) -> Instruction
-        requires r { d.now.fields.r < 2 }
-        requires x { d.now.fields.x < 2 }
-        requires b { d.now.fields.b < 2 }
+        requires { RegistersFit d.now.fields }
         ensures is { (w : Swap) → result ≡ instruction_of row.now d.now len (state_of self.now w) }
         ensures fits { InstructionFits result }
     {
@@ -51,9 +48,7 @@ impl Machine {
     // The instruction of an operation whose destination has this size.
     #[tactic(auto, unfolding(crate::specs::Operands::instruction_as, crate::specs::Operands::destination_in, crate::specs::Operands::source_in, crate::specs::Operands::third_in))]
     fn instruction_with(&self, op: Op, size: Size, row: &Row, d: &Decoded, next: u64) -> Instruction
-        requires r { d.now.fields.r < 2 }
-        requires x { d.now.fields.x < 2 }
-        requires b { d.now.fields.b < 2 }
+        requires { RegistersFit d.now.fields }
         ensures is { (w : Swap) → result ≡ instruction_as op size
             (source_size_of op row.now.operands size) row.now d.now next (state_of self.now w) }
         ensures fits { InstructionFits result }
@@ -61,7 +56,7 @@ impl Machine {
         let operands = row.operands;
         let source_size = source_size(op, operands, size);
         let stack = stack_place(op, size, &self.gprs);
-        let bases = bases(op, size, next, &self.gprs);
+        let bases = self.bases(op, size, next);
         let destination = destination(op, operands, size, stack, d, &self.gprs, bases);
         let source = source(op, operands, source_size, stack, d, &self.gprs, bases);
         let wide = is_wide(op, operands);
@@ -97,7 +92,7 @@ impl Machine {
         ensures { (w : Swap) → result ≡ strings_of op row.now d.now next (state_of self.now w) }
     {
         let size = row_size(row, &d.fields);
-        let bases = bases(Op::String(op), size, next, &self.gprs);
+        let bases = self.bases(Op::String(op), size, next);
         StringPlan {
             op,
             size,
@@ -111,12 +106,11 @@ impl Machine {
     // CMPXCHG8B or CMPXCHG16B by its row and fields.
     #[tactic(auto, unfolding(crate::specs::Pair::pair_of))]
     fn on_pair(&self, row: &Row, d: &Decoded, next: u64) -> PairPlan
-        requires x { d.now.fields.x < 2 }
-        requires b { d.now.fields.b < 2 }
+        requires { RegistersFit d.now.fields }
         ensures { (w : Swap) → result ≡ pair_of row.now d.now next (state_of self.now w) }
     {
         let half = half(row);
-        let bases = bases(Op::Core(CoreOp::Cmpxchg8b), half, next, &self.gprs);
+        let bases = self.bases(Op::Core(CoreOp::Cmpxchg8b), half, next);
         PairPlan {
             half,
             addr: address(&d.fields, d.disp, &self.gprs, bases),
@@ -127,9 +121,7 @@ impl Machine {
     // The instruction of a row and its fields, by the row's operation.
     #[tactic(auto, unfolding(crate::specs::Plan::plan_of, crate::specs::Plan::core_plan))]
     pub(crate) fn plan_for(&self, row: &Row, d: &Decoded, len: u8) -> Plan
-        requires r { d.now.fields.r < 2 }
-        requires x { d.now.fields.x < 2 }
-        requires b { d.now.fields.b < 2 }
+        requires { RegistersFit d.now.fields }
         ensures is { (w : Swap) → result ≡ plan_of_row row.now d.now len (state_of self.now w) }
         ensures fits { PlanFits result }
     {

@@ -1,7 +1,5 @@
 mod processor;
 
-use crate::addressing::address;
-use crate::kinds::Bases;
 use crate::{Acted, Fault, Fetched, Fetcher, Flags, Gprs, Machine, Pages, Perms};
 use machine_state::Kind;
 use processor::{Row, State};
@@ -58,6 +56,8 @@ fn machine(rt: &impl Abort, alloc: Global, code: &[u8]) -> Result<Machine, Fail>
         flags: Flags::from_word(1),
         rip: CODE + 0x100,
         pages,
+        fs: 0,
+        gs: 0,
         steps: 0,
     })
 }
@@ -393,35 +393,26 @@ fn a_fetch_faults_at_the_first_byte_that_is_not_allowed(rt: HostRuntime) -> Resu
     Ok(())
 }
 
-// No instruction sets the bases of FS and GS yet, so this asks for the address itself.
+// Each row has the code, the bases of FS and GS, and what comes into eax where rsp is 16: mov eax, [rsp + 8] and others with
+// prefixes 64, 65 and both; with 67 the sum is cut before the base is added, and lea adds none.
 #[test]
-fn the_last_segment_prefix_gives_the_base(rt: HostRuntime) {
-    let gprs = Gprs::new();
-    let bases = Bases {
-        rsp: 0x10,
-        next: 0x1000,
-        fs: 0xFFFF_FFFF_FFFF_FFF0,
-        gs: 0x7000,
-    };
-    // mov eax, [rsp + 8] with prefixes 64, 65 and both; with 67 the sum is cut before the base is added
-    let rows: [(&[u8], u64); 5] = [
-        (&[0x8B, 0x44, 0x24, 8], 0x18),
-        (&[0x64, 0x8B, 0x44, 0x24, 8], 8),
-        (&[0x64, 0x65, 0x8B, 0x44, 0x24, 8], 0x7018),
-        (&[0x65, 0x64, 0x2E, 0x8B, 0x44, 0x24, 8], 8),
-        (&[0x65, 0x67, 0x8B, 0x44, 0x24, 0xEF], 0x1_0000_6FFF),
+#[rattlefmt::skip]
+fn the_last_segment_prefix_gives_the_base(rt: HostRuntime) -> Result<(), Fail> {
+    let rows: [(&[u8], u64, u64, u64); 6] = [
+        (&[0x64, 0x8B, 0x44, 0x24, 8], 0x50_00E8, 0, 0x160F_0801),
+        (&[0x64, 0x65, 0x8B, 0x44, 0x24, 8], 0, 0x50_00F8, 0x867F_7871),
+        (&[0x65, 0x64, 0x2E, 0x8B, 0x44, 0x24, 8], 0x50_00E8, 0, 0x160F_0801),
+        (&[0x64, 0x8B, 0x84, 0x24, 0, 1, 0x50, 0], 0xFFFF_FFFF_FFFF_FFF0, 0, 0x160F_0801),
+        (&[0x65, 0x67, 0x8B, 0x44, 0x24, 0xEF], 0, 0xFFFF_FFFF_0050_0101, 0x160F_0801),
+        (&[0x64, 0x8D, 0x44, 0x24, 8], 0x7000, 0, 0x18),
     ];
-    for (code, place) in rows {
-        match x_decode::decode(code) {
-            x_decode::Seen::Instr(d, _) => {
-                assert!(rt; d.fields.b < 2 && d.fields.x < 2);
-                assert_eq!(rt;
-                    address(&d.fields, d.disp, &gprs, bases),
-                    place,
-                    "at {code:?}"
-                );
-            }
-            _ => panic!(rt; "no instruction at {code:?}"),
-        }
+    for (code, fs, gs, eax) in rows {
+        let mut m = machine(&rt, rt.alloc(), code)?;
+        m.gprs.set(4, 0x10);
+        m.fs = fs;
+        m.gs = gs;
+        assert_eq!(rt; step(&rt, &mut m), Acted::Done, "at {code:?}");
+        assert_eq!(rt; m.gprs.get(0), eax, "at {code:?}");
     }
+    Ok(())
 }

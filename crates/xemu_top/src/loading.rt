@@ -184,6 +184,8 @@ pub(crate) fn first_machine(alloc: Global, bytes: &[u8]) -> Result<Machine, Allo
         flags: Flags::none(),
         rip: number_from(bytes, 24),
         pages,
+        fs: 0,
+        gs: 0,
         steps: 0,
     })
 }

@@ -1,7 +1,7 @@
 //! Whole steps, and runs of them.
 ghost use Rattle.std.specs.Prelude.{◌≡◌, ◌<◌, ◌≤◌, ◌+◌, ◌-◌, ◌^◌, Some, is_some};
 ghost use Rattle.guest_pages.specs.Changes.{AllResident};
-ghost use Rattle.legacy_decode.specs.Spelling.{IsDecoded};
+ghost use Rattle.x_decode.specs.Seeing.{IsDecoded};
 ghost use Rattle.core_step.specs.Act.{performed};
 ghost use Rattle.xemu_top.specs.Step.{step, after_part, signal_of as signal_of_fault};
 ghost use Rattle.xemu_top.specs.Following.{FollowsAt, RunsAt, IsCaused, SignalFits, HasRunSignal, failed_in, run_end as run_end_spec, stopped_by};

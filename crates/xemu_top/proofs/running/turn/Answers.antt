@@ -1,9 +1,11 @@
 use Rattle.std.proofs.Common.{◌∙◌, ◌+◌, ◌/◌, sym, refl, subst, Some, []}
 use Rattle.core_step.specs.declared.fetching.Fetched.{Fetched}
+use Rattle.core_step.specs.declared.fetching.Fetched.TheVariants.{Instr, Trap}
 use Rattle.core_step.specs.Fetch.{IsFetched}
 use Rattle.machine_state.specs.declared.kinds.GuestEnd.TheVariants.{Killed}
 use Rattle.core_step.specs.Act.{performed, trapped}
 use Rattle.core_step.specs.Machine.{state_of}
+use Rattle.core_step.proofs.FetchLemmas.{act-fetched}
 use Rattle.xemu_top.specs.Following.{world_at}
 use Rattle.xemu_top.proofs.RunLemmas.{step_is}
 use Rattle.xemu_top.proofs.FollowLemmas.{reaches, follows-whole}
@@ -19,14 +21,16 @@ unreachable-requires g c =
 pub returns-in-Instr-clause-follows : goal.returns-in-Instr-clause-follows
 returns-in-Instr-clause-follows g c w base o e first out_is err_is =
     rw (step_is (world_at base (state_of c.args.machine.now w) o e)
-    (performed c.in-Instr.d c.in-Instr.len (state_of c.args.machine.now w)) (subst (λ (f : Fetched). IsFetched (state_of c.args.machine.now w) f) c.in-Instr.is (c.fetch_by.ensures.whole w)))
+    (performed c.in-Instr.d c.in-Instr.len (state_of c.args.machine.now w)) (act-fetched (state_of c.args.machine.now w) (Instr c.in-Instr.d c.in-Instr.len)
+    (subst (λ (f : Fetched). IsFetched (state_of c.args.machine.now w) f) c.in-Instr.is (c.fetch_by.ensures.whole w))))
     (c.perform.ensures.follows w base o e first out_is err_is)
 
 pub returns-in-Trap-clause-follows : goal.returns-in-Trap-clause-follows
 returns-in-Trap-clause-follows g c w base o e first out_is err_is =
     rw (
       step_is (world_at base (state_of c.args.machine.now w) o e)
-          (trapped c.in-Trap.fault (state_of c.args.machine.now w)) (subst (λ (f : Fetched). IsFetched (state_of c.args.machine.now w) f) c.in-Trap.is (c.fetch_by.ensures.whole w)),
+          (trapped c.in-Trap.fault (state_of c.args.machine.now w)) (act-fetched (state_of c.args.machine.now w) (Trap c.in-Trap.fault)
+          (subst (λ (f : Fetched). IsFetched (state_of c.args.machine.now w) f) c.in-Trap.is (c.fetch_by.ensures.whole w))),
       c.kill.ensures.end,
       c.kill.ensures.machine,
     )

@@ -9,7 +9,7 @@ use Rattle.core_step.specs.Act.{old_value, value_of, register_value, outcome_in}
 use Rattle.core_step.specs.Result.{outcome_of}
 use Rattle.core_step.specs.Machine.{state_of}
 use Rattle.core_step.proofs.Walks.{both-free}
-use Rattle.core_step.proofs.Steps.{after-is, kept-is}
+use Rattle.core_step.proofs.Steps.{after-is}
 use Rattle.core_step.proofs.machine.Machine.complete.Goals as goal
 
 pub old_value-a-requires-clause-ready : goal.old_value-a-requires-clause-ready
@@ -32,10 +32,5 @@ returns-clause-after c w =
     let third : c.register_value-c.result ≡ register_value i.third i.third_size old.gprs = c.register_value-c.ensures.value in
     after-is i c.outcome-outcome.result (outcome_in i (state_of old w)) (state_of old w) (state_of c.leave.new.self w)
     (c.outcome-outcome.ensures.outcome ∙ (λ k. outcome_of i (a k) (b k) (third k) old.flags old.steps)) c.leave.ensures.gprs
-    c.leave.ensures.flags c.leave.ensures.rip refl refl refl c.leave.ensures.steps (ap perms_in c.leave.ensures.pages.table)
+    c.leave.ensures.flags c.leave.ensures.rip refl c.leave.ensures.fs c.leave.ensures.gs c.leave.ensures.steps (ap perms_in c.leave.ensures.pages.table)
     (c.leave.ensures.byte w)
-
-pub returns-clause-kept : goal.returns-clause-kept
-returns-clause-kept c =
-    kept-is c.outcome-outcome.result.acted c.args.i.now c.outcome-outcome.result c.args.self.now c.leave.new.self
-    c.outcome-outcome.ensures.fits c.leave.ensures.gprs c.leave.ensures.flags refl c.leave.ensures.steps c.leave.ensures.unwritten

@@ -1,5 +1,6 @@
 use Rattle.std.proofs.Common.{◌∙◌}
 use Rattle.core_step.proofs.FetchLemmas.{IsRead, fetches, fetches-all}
+use Rattle.core_step.proofs.PageCounts.{fetch-touches}
 use Rattle.core_step.proofs.machine.Machine.fetch_by.Goals as goal
 
 pub returns-then-run-eq15 : goal.returns-then-run-eq15
@@ -12,7 +13,7 @@ returns-then-run-eq15 c =
       shown = c.read_run-run.ensures.bytes;
     } in
     let f = fetches-all c.args.self.now into run.count run.stop c.recall.result.now read c.if-run-eq15.true c.recall.ensures in
-    record { whole = f.whole; need = f.need; fits = f.fits }
+    record { whole = f.whole; never = f.never; need = f.need; fits = f.fits; few = fetch-touches c.args.self.now.rip }
 
 pub returns-else-run-eq15 : goal.returns-else-run-eq15
 returns-else-run-eq15 c =
@@ -23,5 +24,5 @@ returns-else-run-eq15 c =
       run = c.read_run-run.ensures.run;
       shown = c.read_run-run.ensures.bytes;
     } in
-    let f = fetches c.args.self.now into run.count run.stop c.decode.result c.hold.result.now read c.decode.ensures (c.hold.ensures ∙ c.outcome.ensures) in
-    record { whole = f.whole; need = f.need; fits = f.fits }
+    let f = fetches c.args.self.now into run.count run.stop c.decode.result c.hold.result.now read c.decode.ensures (c.hold.ensures ∙ c.fetch_outcome.ensures) in
+    record { whole = f.whole; never = f.never; need = f.need; fits = f.fits; few = fetch-touches c.args.self.now.rip }

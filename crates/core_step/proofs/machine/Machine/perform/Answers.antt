@@ -1,7 +1,12 @@
-use Rattle.std.proofs.Common.{◌≡◌, ◌↔◌, None, Some, Option, refl, ap, ◌∙◌, sym, subst}
+use Rattle.std.proofs.Common.{◌≡◌, ◌↔◌, None, Some, Option, true, nat_lt, ◌&&◌, refl, ap, ◌∙◌, sym, subst}
+use Rattle.std.proofs.lemmas.Bool.{and_parts}
+use borrow.Author.Tests.{ltb-true}
 use Rattle.machine_state.specs.declared.kinds.Stop.{Stop}
 use Rattle.guest_pages.specs.Pages.{table_of, memory_of}
 use Rattle.guest_pages.specs.Walk.{walk}
+use Rattle.row_table.specs.declared.kinds.Fields.{Fields}
+use Rattle.legacy_decode.specs.Spelling.{registers_fit}
+use Rattle.x_decode.proofs.Classes.{decoded-registers, decoded-row}
 use Rattle.core_step.specs.declared.acted.Acted.{Acted}
 use Rattle.core_step.specs.declared.acted.Acted.TheVariants.{Need}
 use Rattle.core_step.specs.declared.kinds.Plan.{Plan}
@@ -10,7 +15,22 @@ use Rattle.core_step.specs.Machine.{state_of, IsWhole, accesses, needed}
 use Rattle.core_step.proofs.Steps.{accesses-by, performed-stops, performed-passes, whole-stopped, whole-own, stop-needs}
 use Rattle.core_step.proofs.Local.{local}
 use Rattle.core_step.proofs.Frame.{framed}
+use Rattle.core_step.proofs.PageCounts.{accesses-touch}
+use Rattle.core_step.specs.Fits.{RegistersFit}
 use Rattle.core_step.proofs.machine.Machine.perform.Goals as goal
+
+-- the registers of an instruction's fields
+fits-from : (f : Fields) → registers_fit f ≡ true → RegistersFit f
+fits-from f fit =
+    let w = and_parts (nat_lt f.r 2) (nat_lt f.x 2 && nat_lt f.b 2) fit in
+    let v = and_parts (nat_lt f.x 2) (nat_lt f.b 2) w.1 in
+    record { r = ltb-true f.r 2 w.0; x = ltb-true f.x 2 v.0; b = ltb-true f.b 2 v.1 }
+
+pub row-requires : goal.row-requires
+row-requires c = decoded-row c.args.d.now.fields c.args.d.now c.requires.spells
+
+pub plan_for-plan-requires : goal.plan_for-plan-requires
+plan_for-plan-requires c = fits-from c.args.d.now.fields (decoded-registers c.args.d.now.fields c.args.d.now c.requires.spells)
 
 pub returns-in-Err-clause-whole : goal.returns-in-Err-clause-whole
 unfolding memory_of
@@ -46,6 +66,12 @@ returns-in-Ok-clause-need c w slot =
       λ e. absurd (c.finish.ensures.own slot e),
       λ e. absurd (let none : None ≡ Some slot = ap needed (sym walked) ∙ e in cc),
     )
+
+pub returns-in-Err-clause-few : goal.returns-in-Err-clause-few
+returns-in-Err-clause-few c w = accesses-touch c.args.d.now c.args.len (state_of c.args.self.now w)
+
+pub returns-in-Ok-clause-few : goal.returns-in-Ok-clause-few
+returns-in-Ok-clause-few c w = accesses-touch c.args.d.now c.args.len (state_of c.args.self.now w)
 
 pub returns-in-Err-clause-local : goal.returns-in-Err-clause-local
 returns-in-Err-clause-local c w = local c.args.d.now c.args.len (state_of c.args.self.now w)

@@ -1,0 +1,142 @@
+-- How many pages an instruction's accesses touch.
+use Rattle.std.proofs.Common.{◌≡◌, ℕ, ◌+◌, ◌*◌, ◌/◌, ◌≤◌, ◌<◌, inl, inr, Bool, true, false, cond, List, [], ◌∷◌, ◌++◌, Option, Some, None, length, length-append, refl, arith, slice_get, lit≤}
+use Rattle.std.specs.List.{All, Contains}
+use Rattle.std.proofs.lemmas.Bool.{cases_lt}
+use Rattle.std.proofs.lemmas.List.Elements.{All-nil, All-cons, All-head, All-tail, All-append, All-weaker, Contains-append_right}
+use Rattle.machine_state.specs.State.{State}
+use Rattle.machine_state.specs.declared.kinds.Kind.{Kind}
+use Rattle.machine_state.specs.declared.kinds.Access.{Access}
+use Rattle.row_table.specs.declared.kinds.Row.{Row}
+use Rattle.row_table.specs.declared.kinds.Decoded.{Decoded}
+use Rattle.row_table.specs.declared.operations.StringOp.{StringOp}
+use Rattle.row_table.specs.declared.operations.StringOp.TheVariants.{Movs, Cmps, Stos, Lods, Scas}
+use Rattle.row_table.specs.Rows.{rows}
+use Rattle.string_unit.specs.Strings.{string_accesses}
+use Rattle.core_step.specs.declared.kinds.Size.{Size}
+use Rattle.core_step.specs.declared.kinds.Size.TheVariants.{Byte, Word, Double, Quad}
+use Rattle.core_step.specs.declared.kinds.Operand.{Operand}
+use Rattle.core_step.specs.declared.kinds.Operand.TheVariants.{Absent, Register, HighByte, Memory, Number}
+use Rattle.core_step.specs.declared.kinds.Instruction.{Instruction}
+use Rattle.core_step.specs.declared.kinds.PairPlan.{PairPlan}
+use Rattle.core_step.specs.declared.kinds.Plan.{Plan}
+use Rattle.core_step.specs.declared.kinds.Plan.TheVariants.{Plain, OnStrings, OnPair}
+use Rattle.core_step.specs.Size.{bytes_in}
+use Rattle.core_step.specs.Operands.{use_of}
+use Rattle.core_step.specs.Access.{operand_access, kind_of, accesses_of}
+use Rattle.core_step.specs.Strings.{is_over, source_of, destination_of, strings_access}
+use Rattle.core_step.specs.Pair.{pair_write, pair_access, is_misaligned}
+use Rattle.core_step.specs.Plan.{plan_of, plan_accesses}
+use Rattle.core_step.specs.Pages.{LiesOn, TouchesAtMost, fetch_accesses}
+use Rattle.core_step.specs.Machine.{accesses, accesses_by}
+
+-- no access is longer than a page
+abbrev IsShort : Access → Type 0
+IsShort access = access.len ≤ 4096
+
+-- so many accesses at most, and short ones
+record AreFew (most : ℕ) (xs : List Access) : Type 0 where
+  count : length xs ≤ most
+  short : All IsShort xs
+
+few-none : (most : ℕ) → AreFew most []
+few-none most = record { count = omega arith; short = All-nil IsShort }
+
+few-one : (access : Access) → IsShort access → AreFew 1 (access ∷ [])
+few-one access short = record { count = omega arith; short = All-cons IsShort access [] short (All-nil IsShort) }
+
+few-append : (m n : ℕ) (xs ys : List Access) → AreFew m xs → AreFew n ys → AreFew (m + n) (xs ++ ys)
+few-append m n xs ys few more =
+    record { count = omega (arith, few.count, more.count, length-append xs ys); short = All-append IsShort xs ys few.short more.short }
+
+few-more : (m n : ℕ) (xs : List Access) → m ≤ n → AreFew m xs → AreFew n xs
+few-more m n xs le few = record { count = omega (arith, few.count); short = few.short }
+
+-- ---- the pages of short accesses: that of the first byte, and the next
+pages_of : List Access → List ℕ
+pages_of [] = []
+pages_of (access ∷ rest) = (access.addr / 4096) ∷ (access.addr / 4096 + 1) ∷ pages_of rest
+
+length-pages_of : (xs : List Access) → length (pages_of xs) ≡ 2 * length xs
+unfolding pages_of
+length-pages_of [] = refl
+length-pages_of (access ∷ rest) = omega (arith, length-pages_of rest)
+
+lies-first : (access : Access) (rest : List ℕ) → IsShort access
+    → LiesOn ((access.addr / 4096) ∷ (access.addr / 4096 + 1) ∷ rest) access
+lies-first access rest short at low high = elim (cases_lt (access.addr / 4096) (at / 4096)) [
+  | inl above ↦ (1, omega arith, omega (arith, short))
+  | inr below ↦ (0, omega arith, omega arith)
+]
+
+lies-all : (xs : List Access) → All IsShort xs → All (LiesOn (pages_of xs)) xs
+unfolding pages_of
+lies-all [] short = All-nil (LiesOn [])
+lies-all (access ∷ rest) short =
+    let here : ℕ = access.addr / 4096 in
+    All-cons (LiesOn (here ∷ (here + 1) ∷ pages_of rest)) access rest (lies-first access (pages_of rest) (All-head IsShort access rest short))
+    (All-weaker (LiesOn (pages_of rest)) (LiesOn (here ∷ (here + 1) ∷ pages_of rest))
+    (λ other lies at low high. Contains-append_right (here ∷ (here + 1) ∷ []) (pages_of rest) (at / 4096) (lies at low high)) rest
+    (lies-all rest (All-tail IsShort access rest short)))
+
+few-touch : (most : ℕ) (xs : List Access) → AreFew most xs → TouchesAtMost (2 * most) xs
+few-touch most xs few = record {
+  pages = pages_of xs;
+  few = omega (arith, length-pages_of xs, few.count);
+  lie = lies-all xs few.short;
+}
+
+-- ---- the accesses of each kind
+bytes-short : (size : Size) → bytes_in size ≤ 8
+bytes-short Byte = omega arith
+bytes-short Word = omega arith
+bytes-short Double = omega arith
+bytes-short Quad = omega arith
+
+operand-few : (kind : Kind) (operand : Operand) (size : Size) → AreFew 1 (operand_access kind operand size)
+operand-few kind Absent size = few-none 1
+operand-few kind (Register number) size = few-none 1
+operand-few kind (HighByte number) size = few-none 1
+operand-few kind (Memory addr) size = few-one _ (omega (arith, bytes-short size))
+operand-few kind (Number number) size = few-none 1
+
+plain-few : (i : Instruction) → AreFew 2 (accesses_of i)
+unfolding accesses_of
+plain-few i = few-append 1 1 _ _ (operand-few _ i.source i.source_size) (operand-few (kind_of (use_of i.op)) i.destination i.size)
+
+iteration-few : (op : StringOp) (size source destination : ℕ) → size ≤ 8 → AreFew 2 (string_accesses op size source destination)
+unfolding string_accesses
+iteration-few Movs size source destination short = few-append 1 1 (_ ∷ []) (_ ∷ []) (few-one _ (omega arith)) (few-one _ (omega arith))
+iteration-few Cmps size source destination short = few-append 1 1 (_ ∷ []) (_ ∷ []) (few-one _ (omega arith)) (few-one _ (omega arith))
+iteration-few Stos size source destination short = few-more 1 2 _ (omega arith) (few-one _ (omega arith))
+iteration-few Lods size source destination short = few-more 1 2 _ (omega arith) (few-one _ (omega arith))
+iteration-few Scas size source destination short = few-more 1 2 _ (omega arith) (few-one _ (omega arith))
+
+strings-few : (over : Bool) (op : StringOp) (size source destination : ℕ) → size ≤ 8
+    → AreFew 2 (cond over [] (string_accesses op size source destination))
+strings-few true op size source destination short = few-none 2
+strings-few false op size source destination short = iteration-few op size source destination short
+
+pair-few : (misaligned : Bool) (i : PairPlan) → AreFew 2 (cond misaligned [] (pair_write i ∷ []))
+pair-few true i = few-none 2
+pair-few false i = few-more 1 2 _ (omega arith) (few-one _ (omega (arith, bytes-short i.half)))
+
+-- ---- the whole
+plan-few : (plan : Plan) (gprs : List ℕ) → AreFew 2 (plan_accesses plan gprs)
+unfolding strings_access pair_access
+plan-few (Plain i) gprs = plain-few i
+plan-few (OnStrings i) gprs =
+    strings-few (is_over i gprs) i.op (bytes_in i.size) (source_of i gprs) (destination_of i gprs) (bytes-short i.size)
+plan-few (OnPair i) gprs = pair-few (is_misaligned i) i
+
+row-few : (found : Option Row) (d : Decoded) (len : ℕ) (s : State) → AreFew 2 (accesses_by found d len s)
+row-few (Some row) d len s = plan-few (plan_of row d len s) s.gprs
+row-few None d len s = few-none 2
+
+-- the accesses of an instruction touch at most four pages
+pub accesses-touch : (d : Decoded) (len : ℕ) (s : State) → TouchesAtMost 4 (accesses d len s)
+unfolding accesses
+accesses-touch d len s = few-touch 2 _ (row-few (slice_get rows d.row) d len s)
+
+-- and the fetch of one at most two
+pub fetch-touches : (rip : ℕ) → TouchesAtMost 2 (fetch_accesses rip)
+fetch-touches rip = few-touch 1 _ (few-one _ (omega arith))
