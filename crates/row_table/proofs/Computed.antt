@@ -1,18 +1,22 @@
 -- What the checker computes over the whole table. All else follows from these by lemmas.
 use Rattle.std.proofs.Common.{◌≡◌, true, refl, sym, subst, length}
-use Rattle.row_table.specs.Families.{listing, one_byte, two_byte, three_byte}
-use Rattle.row_table.specs.Rows.{rows, table, starts, sorted, insert_row}
-use Rattle.row_table.proofs.Index.{placed, rises, at_most}
+use Rattle.row_table.specs.Legacy.{legacy, one_byte, two_byte, three_byte}
+use Rattle.row_table.specs.Rows.{rows, table, starts}
+use Rattle.row_table.proofs.Index.{index_fits, indexed, passes_by, ranged, rises, at_most}
 use Rattle.row_table.proofs.Pairs.{ordered, passes_near, near, together}
 
 -- the rows of the definition are those of the code
 pub rows-table : rows ≡ table
-unfolding rows listing one_byte two_byte three_byte sorted insert_row table
+unfolding rows legacy one_byte two_byte three_byte table
 rows-table = refl
 
-table-placed : placed starts 0 table ≡ true
-unfolding placed starts table
-table-placed = refl
+table-indexed : index_fits starts table ≡ true
+unfolding index_fits indexed passes_by starts table
+table-indexed = refl
+
+table-ranged : ranged table ≡ true
+unfolding ranged table
+table-ranged = refl
 
 pub starts-rise : rises 0 starts ≡ true
 unfolding rises starts
@@ -35,8 +39,11 @@ unfolding near passes_near table
 table-together = refl
 
 -- ---- the same of the rows of the definition
-pub rows-placed : placed starts 0 rows ≡ true
-rows-placed = subst (λ t. placed starts 0 t ≡ true) (sym rows-table) table-placed
+pub rows-indexed : index_fits starts rows ≡ true
+rows-indexed = subst (λ t. index_fits starts t ≡ true) (sym rows-table) table-indexed
+
+pub rows-ranged : ranged rows ≡ true
+rows-ranged = subst (λ t. ranged t ≡ true) (sym rows-table) table-ranged
 
 pub starts-within : at_most (length rows) starts ≡ true
 starts-within = subst (λ t. at_most (length t) starts ≡ true) (sym rows-table) table-within

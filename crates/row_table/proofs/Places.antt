@@ -1,14 +1,14 @@
 -- Where the rows of a place lie.
-use Rattle.std.proofs.Common.{◌≡◌, ◌+◌, ◌<◌, ◌≤◌, ℕ, slice_get, slice_index, Some, subst, sym, ap, ◌∙◌, arith, zero-add}
+use Rattle.std.proofs.Common.{◌≡◌, ◌+◌, ◌<◌, ◌≤◌, ℕ, slice_get, slice_index, Some, subst, sym, ap, ◌∙◌, arith}
 use Rattle.row_table.specs.declared.kinds.Row.{Row}
 use Rattle.row_table.specs.declared.kinds.Class.{Class}
 use Rattle.row_table.specs.Rows.{rows, starts, place, row_place}
 use Rattle.row_table.specs.Matching.{IsAt}
 use Rattle.row_table.proofs.Index.{Placed, placed-at, place-of, place-same, place-between, place-lt}
-use Rattle.row_table.proofs.Computed.{rows-placed, starts-rise, starts-length}
+use Rattle.row_table.proofs.Computed.{rows-indexed, rows-ranged, starts-rise, starts-length}
 
 pub placed-here : (i : ℕ) (r : Row) → slice_get rows i ≡ Some r → Placed starts i r
-placed-here i r e = subst (λ k. Placed starts k r) (zero-add i) (placed-at starts 0 rows i r rows-placed e)
+placed-here i r e = placed-at starts rows i r rows-indexed rows-ranged e
 
 -- rows of one place have one class, map and opcode
 pub at-of-place : (i : ℕ) (r : Row) (c : Class) (m o : ℕ) → slice_get rows i ≡ Some r → m < 4 → o < 256 → row_place r ≡ place c m o → IsAt r c m o

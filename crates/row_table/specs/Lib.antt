@@ -1,5 +1,5 @@
 pub mod Shapes
 pub mod Lines
-pub mod Families
+pub mod Legacy
 pub mod Rows
 pub mod Matching

@@ -3,12 +3,15 @@ use Rattle.std.specs.Prelude.{ℕ, zero, suc, ◌+◌, ◌*◌, true, false, Som
 use Rattle.row_table.specs.declared.kinds.Class.TheVariants.{Legacy}
 use Rattle.row_table.specs.declared.kinds.Prefix.TheVariants.{Unmarked, Np, P66, PF3}
 use Rattle.row_table.specs.declared.kinds.Operands.{Operands}
-use Rattle.row_table.specs.declared.kinds.Operands.TheVariants.{EbGb, EvGv, GbEb, GvEv, AlIb, RaxIz, Eb, Ev, EbIb, EvIb, EvIz, EbOne, EvOne, EbCl, EvCl}
+use Rattle.row_table.specs.declared.kinds.Operands.TheVariants.{EbGb, EvGv, GbEb, GvEv, AlIb, RaxIz}
 use Rattle.row_table.specs.declared.kinds.Tuple.TheVariants.{NoTuple}
 use Rattle.row_table.specs.declared.kinds.MaskKind.TheVariants.{NoMask}
 use Rattle.row_table.specs.declared.kinds.Align.TheVariants.{Free, Sixteen}
 use Rattle.row_table.specs.declared.kinds.Level.TheVariants.{V2, V3}
 use Rattle.row_table.specs.declared.operations.Op.{Op}
+use Rattle.row_table.specs.declared.operations.Op.TheVariants.{Gpr, Bit}
+use Rattle.row_table.specs.declared.operations.GprOp.TheVariants.{Add, Or, Adc, Sbb, And, Sub, Xor, Cmp, Not, Neg, Mul, Imul, Div, Idiv}
+use Rattle.row_table.specs.declared.operations.BitOp.TheVariants.{Rol, Ror, Rcl, Rcr, Shl, Shr, Sar, Bt, Bts, Btr, Btc}
 use Rattle.row_table.specs.declared.kinds.Row.{Row}
 
 -- a legacy row of the one-byte map, for every processor, without a mark: its opcode, operands, width in
@@ -100,22 +103,31 @@ arithmetic i op =
     ∷ byte (8 * i + 2) GbEb op ∷ sized (8 * i + 3) GvEv op
     ∷ byte (8 * i + 4) AlIb op ∷ sized (8 * i + 5) RaxIz op ∷ []
 
--- the three rows of an arithmetic operation i with an immediate: 80, 81, 83 /i
-abbrev pub with_immediate : ℕ → Op → List Row
-with_immediate i op =
-    digit i (byte 0x80 EbIb op) ∷ digit i (sized 0x81 EvIz op) ∷ digit i (sized 0x83 EvIb op) ∷ []
+-- ---- groups: rows of one opcode by ModRM.reg, from a row for each operation (Intel SDM volume 2, table A-6)
+-- ADD, OR, ADC, SBB, AND, SUB, XOR, CMP
+abbrev pub group_1 : (Op → Row) → List Row
+group_1 row =
+    digit 0 (row (Gpr Add)) ∷ digit 1 (row (Gpr Or)) ∷ digit 2 (row (Gpr Adc)) ∷ digit 3 (row (Gpr Sbb))
+    ∷ digit 4 (row (Gpr And)) ∷ digit 5 (row (Gpr Sub)) ∷ digit 6 (row (Gpr Xor)) ∷ digit 7 (row (Gpr Cmp)) ∷ []
 
--- the six rows of a shift or rotation i: C0 and C1 by Ib, D0 and D1 by 1, D2 and D3 by CL, all /i
-abbrev pub shifts : ℕ → Op → List Row
-shifts i op =
-    digit i (byte 0xC0 EbIb op) ∷ digit i (sized 0xC1 EvIb op)
-    ∷ digit i (byte 0xD0 EbOne op) ∷ digit i (sized 0xD1 EvOne op)
-    ∷ digit i (byte 0xD2 EbCl op) ∷ digit i (sized 0xD3 EvCl op) ∷ []
+-- ROL, ROR, RCL, RCR, SHL, SHR, and SAR as /7
+abbrev pub group_2 : (Op → Row) → List Row
+group_2 row =
+    digit 0 (row (Bit Rol)) ∷ digit 1 (row (Bit Ror)) ∷ digit 2 (row (Bit Rcl)) ∷ digit 3 (row (Bit Rcr))
+    ∷ digit 4 (row (Bit Shl)) ∷ digit 5 (row (Bit Shr)) ∷ digit 7 (row (Bit Sar)) ∷ []
 
--- the two rows of an operation on Eb and on Ev: an opcode and the next, both /i
-abbrev pub one_operand : ℕ → ℕ → Op → List Row
-one_operand opcode i op = digit i (byte opcode Eb op) ∷ digit i (sized (opcode + 1) Ev op) ∷ []
+-- of those without an immediate: NOT, NEG, MUL, IMUL, DIV, IDIV, from /2 on
+abbrev pub group_3 : (Op → Row) → List Row
+group_3 row =
+    digit 2 (row (Gpr Not)) ∷ digit 3 (row (Gpr Neg)) ∷ digit 4 (row (Gpr Mul)) ∷ digit 5 (row (Gpr Imul))
+    ∷ digit 6 (row (Gpr Div)) ∷ digit 7 (row (Gpr Idiv)) ∷ []
 
+-- BT, BTS, BTR, BTC, from /4 on
+abbrev pub group_8 : (Op → Row) → List Row
+group_8 row =
+    digit 4 (row (Bit Bt)) ∷ digit 5 (row (Bit Bts)) ∷ digit 6 (row (Bit Btr)) ∷ digit 7 (row (Bit Btc)) ∷ []
+
+-- ---- maps
 -- the rows of another map than the one-byte map
 abbrev pub in_map : ℕ → List Row → List Row
 in_map m rs = map (λ (r : Row). record r { map = m }) rs

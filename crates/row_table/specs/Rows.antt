@@ -1,10 +1,10 @@
--- The row table: the listing's rows in order of class, map and opcode.
-use Rattle.std.specs.Prelude.{ℕ, ◌+◌, ◌*◌, nat_lt, List, [], ◌∷◌, if◌then◌else◌}
+-- The row table: the rows in order of class, map and opcode.
+use Rattle.std.specs.Prelude.{ℕ, ◌+◌, ◌*◌, List}
 use Rattle.row_table.specs.declared.kinds.Class.{Class}
 use Rattle.row_table.specs.declared.kinds.Class.TheVariants.{Legacy, Vex, Evex}
 use Rattle.row_table.specs.declared.kinds.Row.{Row}
 use Rattle.row_table.specs.declared.table.TheConstants.{ROWS, STARTS}
-use Rattle.row_table.specs.Families.{listing}
+use Rattle.row_table.specs.Legacy.{legacy}
 
 abbrev pub class_number : Class → ℕ
 class_number Legacy = 0
@@ -18,22 +18,9 @@ place class map opcode = class_number class * 1024 + map * 256 + opcode
 abbrev pub row_place : Row → ℕ
 row_place r = place r.class r.map r.opcode
 
--- the row before the first one whose place is not below its own
-unfoldable pub insert_row : Row → List Row → List Row
-insert_row r [] = r ∷ []
-insert_row r (q ∷ qs) =
-    let here = r ∷ q ∷ qs in
-    let later = q ∷ insert_row r qs in
-    if nat_lt (row_place q) (row_place r) then later else here
-
--- in order of place; rows of one place stay in their order
-unfoldable pub sorted : List Row → List Row
-sorted [] = []
-sorted (r ∷ rs) = insert_row r (sorted rs)
-
--- the row table
+-- the row table, in order of place; rows of one place stand as the listing has them
 unfoldable pub rows : List Row
-rows = sorted listing
+rows = legacy
 
 -- the rows as the code has them
 unfoldable pub table : List Row
