@@ -1,6 +1,7 @@
 -- What the checker computes over the whole table. All else follows from these by lemmas.
 use Rattle.std.proofs.Common.{◌≡◌, true, refl, sym, subst, length}
 use Rattle.row_table.specs.Legacy.{legacy, one_byte, two_byte, three_byte}
+use Rattle.row_table.specs.Letters.{layout_of, letters}
 use Rattle.row_table.specs.Rows.{rows, table, starts}
 use Rattle.row_table.proofs.Index.{index_fits, indexed, passes_by, ranged, rises, at_most}
 use Rattle.row_table.proofs.Pairs.{ordered, passes_near, near, together}
@@ -35,7 +36,7 @@ unfolding ordered table
 table-ordered = refl
 
 table-together : near together table ≡ true
-unfolding near passes_near table
+unfolding near passes_near layout_of letters table
 table-together = refl
 
 -- ---- the same of the rows of the definition

@@ -1,3 +1,4 @@
+pub mod Letters
 pub mod Shapes
 pub mod Lines
 pub mod Legacy

@@ -131,6 +131,104 @@ pub enum Operands {
     GvKx,
 }
 
+/// Where an operand stands.
+#[derive(Clone, Copy)]
+pub enum Spot {
+    Absent,
+    /// The general register in ModRM.reg.
+    Reg,
+    /// The general register or memory in ModRM.r/m.
+    Rm,
+    /// The general register in vvvv.
+    Vvvv,
+    /// The general register in the opcode.
+    OpcodeReg,
+    /// AL, AX, EAX or RAX.
+    Rax,
+    /// CL.
+    Cl,
+    /// Memory in ModRM.r/m.
+    Memory,
+    /// Memory in ModRM.r/m, whose index is a vector register.
+    VectorMemory,
+    /// Memory at the address that stands in the immediate.
+    Offset,
+    Immediate,
+    /// The place in the code that is so far from the next instruction.
+    Relative,
+    /// The number 1.
+    One,
+    /// The vector register in ModRM.reg.
+    VectorReg,
+    /// The vector register or memory in ModRM.r/m.
+    VectorRm,
+    /// The vector register in vvvv.
+    VectorVvvv,
+    /// The vector register in bits 4 to 7 of the immediate.
+    VectorImmediate,
+    Xmm0,
+    /// The opmask register in ModRM.reg.
+    OpmaskReg,
+    /// The opmask register or memory in ModRM.r/m.
+    OpmaskRm,
+    /// The opmask register in vvvv.
+    OpmaskVvvv,
+}
+
+/// The size of an operand, as the small letter behind its place gives it (Intel SDM volume 2, appendix A.2.2).
+#[derive(Clone, Copy)]
+pub enum Extent {
+    /// The row's, or none.
+    Own,
+    /// b: 1 byte.
+    Byte,
+    /// w: 2 bytes.
+    Word,
+    /// d: 4 bytes.
+    Double,
+    /// dq: 16 bytes.
+    DoubleQuad,
+    /// v: the operand size.
+    Sized,
+    /// y: 4 bytes, or 8 with W.
+    Scalar,
+    /// z: the operand size, but at most 4 bytes.
+    Limited,
+    /// x: the vector's length.
+    Vector,
+}
+
+/// An operand in a list of operands.
+#[derive(Clone, Copy)]
+pub struct Place {
+    pub spot: Spot,
+    pub size: Extent,
+}
+
+/// Which kinds of operand a list of operands takes in ModRM.r/m.
+#[derive(Clone, Copy)]
+pub enum Form {
+    Either,
+    Memory,
+    Register,
+    /// One ModRM byte alone.
+    Exactly(u8),
+}
+
+/// What a list of operands says: what stands where, in the list's order, and which bytes follow the opcode.
+#[derive(Clone, Copy)]
+pub struct Layout {
+    pub first: Place,
+    pub second: Place,
+    pub third: Place,
+    pub fourth: Place,
+    /// Whether ModRM is there.
+    pub modrm: bool,
+    /// The size of the immediate as a code, as in `Shape`.
+    pub immediate: u8,
+    pub form: Form,
+}
+
 /// The size of a vector row's memory operand, by which EVEX scales a displacement of one byte (Intel SDM
 /// volume 2, section 2.7.5).
 #[derive(Clone, Copy)]
@@ -270,16 +368,6 @@ pub struct Decoded {
 pub struct Shape {
     pub modrm: bool,
     pub imm: u8,
-}
-
-/// Which kinds of operand a row takes in ModRM.r/m.
-#[derive(Clone, Copy)]
-pub enum Form {
-    Either,
-    Memory,
-    Register,
-    /// One ModRM byte alone.
-    Exactly(u8),
 }
 
 /// How a row stands to the fields of an instruction.

@@ -4,14 +4,17 @@
 
 mod finding;
 mod kinds;
+mod layouts;
 mod matching;
 mod operations;
 mod table;
 
 pub use finding::{find, is_used, row, row_count, shape};
 pub use kinds::{
-    Align, Class, Decoded, Fields, Level, MaskKind, Operands, Prefix, Row, Shape, Tuple,
+    Align, Class, Decoded, Extent, Fields, Form, Layout, Level, MaskKind, Operands, Place, Prefix, Row, Shape,
+    Spot, Tuple,
 };
+pub use layouts::layout;
 pub use matching::wants_sib;
 pub use operations::{
     BitOp, CoreOp, CrossOp, GatherOp, GprOp, LaneOp, MacOp, MaskOp, Op, StringOp, VectorOp,

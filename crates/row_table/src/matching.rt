@@ -1,115 +1,24 @@
 //! What one row says: its shape, and whether it fits an instruction's fields.
 ghost use Rattle.std.specs.Prelude.{◌≡◌};
-ghost use Rattle.row_table.specs.Shapes.{has_modrm, immediate_of, shape_of, form_of, form_fits, sib_wanted};
+ghost use Rattle.row_table.specs.Shapes.{shape_of, form_fits, sib_wanted};
 ghost use Rattle.row_table.specs.Matching.{digit_fits, w_fits, length_fits, prefix_of_pp, mandatory, fits, IsAt, Stands};
 
-use crate::kinds::{Class, Fields, Form, Operands, Prefix, Row, Shape, Standing};
-
-fn does_have_modrm(operands: Operands) -> bool
-    ensures { result ≡ has_modrm operands }
-{
-    match operands {
-        Operands::Implied
-        | Operands::OpcodeReg
-        | Operands::RaxOpcodeReg
-        | Operands::OpcodeRegIb
-        | Operands::OpcodeRegIv
-        | Operands::Ib
-        | Operands::Iw
-        | Operands::Iz
-        | Operands::Jb
-        | Operands::Jz
-        | Operands::AlIb
-        | Operands::RaxIz
-        | Operands::AlOb
-        | Operands::RaxOv
-        | Operands::ObAl
-        | Operands::OvRax => false,
-        _ => true,
-    }
-}
-
-/// The size code of the immediate.
-fn immediate(operands: Operands) -> u8
-    ensures { result ≡ immediate_of operands }
-{
-    match operands {
-        Operands::OpcodeRegIb
-        | Operands::Ib
-        | Operands::Jb
-        | Operands::AlIb
-        | Operands::EbIb
-        | Operands::EvIb
-        | Operands::GvEvIb
-        | Operands::EvGvIb
-        | Operands::VxHxWxIb
-        | Operands::VxHxWxLx
-        | Operands::VxWxIb
-        | Operands::WxVxIb
-        | Operands::HxWxIb
-        | Operands::HxUxIb
-        | Operands::UxIb
-        | Operands::VxHxEvIb
-        | Operands::EvVxIb
-        | Operands::GvUxIb
-        | Operands::KxHxWxIb
-        | Operands::KxKxIb => 1,
-        Operands::Iw => 2,
-        Operands::Jz => 4,
-        Operands::Iz | Operands::RaxIz | Operands::EvIz | Operands::GvEvIz => 10,
-        Operands::OpcodeRegIv => 11,
-        Operands::AlOb | Operands::RaxOv | Operands::ObAl | Operands::OvRax => 12,
-        _ => 0,
-    }
-}
+use crate::kinds::{Class, Fields, Form, Prefix, Row, Shape, Standing};
+use crate::layouts::layout;
 
 /// Which bytes follow the row's opcode.
 pub(crate) fn shape_for(row: &Row) -> Shape
     ensures { result ≡ shape_of row.now }
 {
+    let layout = layout(row.operands);
     let imm = match (row.map, row.opcode) {
         (0, 0xf6) => 13,
         (0, 0xf7) => 14,
-        _ => immediate(row.operands),
+        _ => layout.immediate,
     };
     Shape {
-        modrm: does_have_modrm(row.operands),
+        modrm: layout.modrm,
         imm,
-    }
-}
-
-fn form(operands: Operands) -> Form
-    ensures { result ≡ form_of operands }
-{
-    match operands {
-        Operands::GvM
-        | Operands::MvGv
-        | Operands::M
-        | Operands::VxMx
-        | Operands::MxVx
-        | Operands::VxHxMx
-        | Operands::MxHxVx
-        | Operands::VxVm
-        | Operands::VxVmHx
-        | Operands::VmVx
-        | Operands::MxKx => Form::Memory,
-        Operands::R
-        | Operands::HxUxIb
-        | Operands::UxIb
-        | Operands::VxHxUx
-        | Operands::UxHxVx
-        | Operands::VxRv
-        | Operands::GvUx
-        | Operands::GvUxIb
-        | Operands::KxUx
-        | Operands::VxKx
-        | Operands::KxKx
-        | Operands::KxKxKx
-        | Operands::KxKxIb
-        | Operands::KxRv
-        | Operands::GvKx => Form::Register,
-        Operands::ByteD0 => Form::Exactly(0xd0),
-        _ => Form::Either,
     }
 }
 
@@ -167,7 +76,7 @@ fn does_fit(row: &Row, fields: &Fields) -> bool
     does_digit_fit(row.digit, fields.modrm)
         && does_w_fit(row.w, fields.w)
         && does_length_fit(row.lengths, fields.l)
-        && does_form_fit(form(row.operands), fields.modrm)
+        && does_form_fit(layout(row.operands).form, fields.modrm)
 }
 
 fn prefix_in(pp: u8) -> Prefix
