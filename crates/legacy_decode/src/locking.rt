@@ -4,7 +4,7 @@ ghost use Rattle.row_table.specs.Shapes.{form_fits};
 ghost use Rattle.row_table.specs.declared.kinds.Form.TheVariants.{Memory};
 ghost use Rattle.legacy_decode.specs.Lock.{operation_locks, writes_rm, lock_fits};
 
-use row_table::{BitOp, CoreOp, Fields, GprOp, Op, Operands, Row};
+use row_table::{BitOp, CoreOp, Fields, GprOp, Op, Operands, Row, Spot, layout};
 
 /// Whether LOCK may stand before the operation.
 #[tactic(auto, unfolding(crate::specs::Lock::operation_locks))]
@@ -40,17 +40,25 @@ fn does_operation_lock(op: Op) -> bool
 fn does_write_rm(operands: Operands) -> bool
     ensures { result ≡ writes_rm operands }
 {
-    matches!(
-        operands,
-        Operands::Eb
-            | Operands::Ev
-            | Operands::EbGb
-            | Operands::EvGv
-            | Operands::EbIb
-            | Operands::EvIb
-            | Operands::EvIz
-            | Operands::M
-    )
+    match layout(operands).first.spot {
+        Spot::Rm | Spot::Memory | Spot::VectorMemory | Spot::VectorRm | Spot::OpmaskRm => true,
+        Spot::Absent
+        | Spot::Reg
+        | Spot::Vvvv
+        | Spot::OpcodeReg
+        | Spot::Rax
+        | Spot::Cl
+        | Spot::Offset
+        | Spot::Immediate
+        | Spot::Relative
+        | Spot::One
+        | Spot::VectorReg
+        | Spot::VectorVvvv
+        | Spot::VectorImmediate
+        | Spot::Xmm0
+        | Spot::OpmaskReg
+        | Spot::OpmaskVvvv => false,
+    }
 }
 
 /// Whether the ModRM byte names memory.

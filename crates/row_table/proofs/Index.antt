@@ -103,7 +103,7 @@ indexed-at here first i j [] [] r le h g = absurd cc
 indexed-at here first i j [] (q ∷ rs) r le h g = absurd cc
 indexed-at here first i j (end ∷ ends) rs r le h g =
     passed-at (λ k qs. indexed (suc here) k qs ends) here first end i j ends rs r
-        (λ k l qs q e w v. let up : end ≤ k = omega arith in indexed-at (suc here) end k l ends qs q up w v) le h g
+    (λ k l qs q e w v. let up : end ≤ k = omega arith in indexed-at (suc here) end k l ends qs q up w v) le h g
 
 ranged-at : (rs : List Row) (i : ℕ) (r : Row) → ranged rs ≡ true → slice_get rs i ≡ Some r → (nat_lt r.map 4 && nat_lt r.opcode 256) ≡ true
 unfolding ranged

@@ -5,50 +5,208 @@ ghost use Rattle.row_table.specs.declared.kinds.Form.TheVariants.{Either};
 
 use crate::kinds::{Extent, Form, Layout, Operands, Place, Spot};
 
-const NOWHERE: Place = Place { spot: Spot::Absent, size: Extent::Own };
-const OPCODE_REG_SIZED: Place = Place { spot: Spot::OpcodeReg, size: Extent::Sized };
-const RAX_SIZED: Place = Place { spot: Spot::Rax, size: Extent::Sized };
-const OPCODE_REG_BYTE: Place = Place { spot: Spot::OpcodeReg, size: Extent::Byte };
-const IMMEDIATE_BYTE: Place = Place { spot: Spot::Immediate, size: Extent::Byte };
-const IMMEDIATE_SIZED: Place = Place { spot: Spot::Immediate, size: Extent::Sized };
-const IMMEDIATE_WORD: Place = Place { spot: Spot::Immediate, size: Extent::Word };
-const IMMEDIATE_LIMITED: Place = Place { spot: Spot::Immediate, size: Extent::Limited };
-const RELATIVE_BYTE: Place = Place { spot: Spot::Relative, size: Extent::Byte };
-const RELATIVE_LIMITED: Place = Place { spot: Spot::Relative, size: Extent::Limited };
-const RAX_BYTE: Place = Place { spot: Spot::Rax, size: Extent::Byte };
-const OFFSET_BYTE: Place = Place { spot: Spot::Offset, size: Extent::Byte };
-const OFFSET_SIZED: Place = Place { spot: Spot::Offset, size: Extent::Sized };
-const RM_BYTE: Place = Place { spot: Spot::Rm, size: Extent::Byte };
-const RM_SIZED: Place = Place { spot: Spot::Rm, size: Extent::Sized };
-const REG_BYTE: Place = Place { spot: Spot::Reg, size: Extent::Byte };
-const REG_SIZED: Place = Place { spot: Spot::Reg, size: Extent::Sized };
-const RM_WORD: Place = Place { spot: Spot::Rm, size: Extent::Word };
-const RM_DOUBLE: Place = Place { spot: Spot::Rm, size: Extent::Double };
-const ONE: Place = Place { spot: Spot::One, size: Extent::Byte };
-const CL: Place = Place { spot: Spot::Cl, size: Extent::Byte };
-const MEMORY_OWN: Place = Place { spot: Spot::Memory, size: Extent::Own };
-const MEMORY_SIZED: Place = Place { spot: Spot::Memory, size: Extent::Sized };
-const RM_OWN: Place = Place { spot: Spot::Rm, size: Extent::Own };
-const REG_SCALAR: Place = Place { spot: Spot::Reg, size: Extent::Scalar };
-const VVVV_SCALAR: Place = Place { spot: Spot::Vvvv, size: Extent::Scalar };
-const RM_SCALAR: Place = Place { spot: Spot::Rm, size: Extent::Scalar };
-const VECTOR_REG: Place = Place { spot: Spot::VectorReg, size: Extent::Vector };
-const VECTOR_VVVV: Place = Place { spot: Spot::VectorVvvv, size: Extent::Vector };
-const VECTOR_RM: Place = Place { spot: Spot::VectorRm, size: Extent::Vector };
-const VECTOR_RM_DOUBLE_QUAD: Place = Place { spot: Spot::VectorRm, size: Extent::DoubleQuad };
-const VECTOR_IMMEDIATE: Place = Place { spot: Spot::VectorImmediate, size: Extent::Vector };
-const XMM0: Place = Place { spot: Spot::Xmm0, size: Extent::Vector };
-const MEMORY_VECTOR: Place = Place { spot: Spot::Memory, size: Extent::Vector };
-const VECTOR_MEMORY: Place = Place { spot: Spot::VectorMemory, size: Extent::Vector };
-const OPMASK_REG: Place = Place { spot: Spot::OpmaskReg, size: Extent::Vector };
-const OPMASK_RM: Place = Place { spot: Spot::OpmaskRm, size: Extent::Vector };
-const OPMASK_VVVV: Place = Place { spot: Spot::OpmaskVvvv, size: Extent::Vector };
+const NOWHERE: Place = Place {
+    spot: Spot::Absent,
+    size: Extent::Own,
+};
+
+const OPCODE_REG_SIZED: Place = Place {
+    spot: Spot::OpcodeReg,
+    size: Extent::Sized,
+};
+
+const RAX_SIZED: Place = Place {
+    spot: Spot::Rax,
+    size: Extent::Sized,
+};
+
+const OPCODE_REG_BYTE: Place = Place {
+    spot: Spot::OpcodeReg,
+    size: Extent::Byte,
+};
+
+const IMMEDIATE_BYTE: Place = Place {
+    spot: Spot::Immediate,
+    size: Extent::Byte,
+};
+
+const IMMEDIATE_SIZED: Place = Place {
+    spot: Spot::Immediate,
+    size: Extent::Sized,
+};
+
+const IMMEDIATE_WORD: Place = Place {
+    spot: Spot::Immediate,
+    size: Extent::Word,
+};
+
+const IMMEDIATE_LIMITED: Place = Place {
+    spot: Spot::Immediate,
+    size: Extent::Limited,
+};
+
+const RELATIVE_BYTE: Place = Place {
+    spot: Spot::Relative,
+    size: Extent::Byte,
+};
+
+const RELATIVE_LIMITED: Place = Place {
+    spot: Spot::Relative,
+    size: Extent::Limited,
+};
+
+const RAX_BYTE: Place = Place {
+    spot: Spot::Rax,
+    size: Extent::Byte,
+};
+
+const OFFSET_BYTE: Place = Place {
+    spot: Spot::Offset,
+    size: Extent::Byte,
+};
+
+const OFFSET_SIZED: Place = Place {
+    spot: Spot::Offset,
+    size: Extent::Sized,
+};
+
+const RM_BYTE: Place = Place {
+    spot: Spot::Rm,
+    size: Extent::Byte,
+};
+
+const RM_SIZED: Place = Place {
+    spot: Spot::Rm,
+    size: Extent::Sized,
+};
+
+const REG_BYTE: Place = Place {
+    spot: Spot::Reg,
+    size: Extent::Byte,
+};
+
+const REG_SIZED: Place = Place {
+    spot: Spot::Reg,
+    size: Extent::Sized,
+};
+
+const RM_WORD: Place = Place {
+    spot: Spot::Rm,
+    size: Extent::Word,
+};
+
+const RM_DOUBLE: Place = Place {
+    spot: Spot::Rm,
+    size: Extent::Double,
+};
+
+const ONE: Place = Place {
+    spot: Spot::One,
+    size: Extent::Byte,
+};
+
+const CL: Place = Place {
+    spot: Spot::Cl,
+    size: Extent::Byte,
+};
+
+const MEMORY_OWN: Place = Place {
+    spot: Spot::Memory,
+    size: Extent::Own,
+};
+
+const MEMORY_SIZED: Place = Place {
+    spot: Spot::Memory,
+    size: Extent::Sized,
+};
+
+const RM_OWN: Place = Place {
+    spot: Spot::Rm,
+    size: Extent::Own,
+};
+
+const REG_SCALAR: Place = Place {
+    spot: Spot::Reg,
+    size: Extent::Scalar,
+};
+
+const VVVV_SCALAR: Place = Place {
+    spot: Spot::Vvvv,
+    size: Extent::Scalar,
+};
+
+const RM_SCALAR: Place = Place {
+    spot: Spot::Rm,
+    size: Extent::Scalar,
+};
+
+const VECTOR_REG: Place = Place {
+    spot: Spot::VectorReg,
+    size: Extent::Vector,
+};
+
+const VECTOR_VVVV: Place = Place {
+    spot: Spot::VectorVvvv,
+    size: Extent::Vector,
+};
+
+const VECTOR_RM: Place = Place {
+    spot: Spot::VectorRm,
+    size: Extent::Vector,
+};
+
+const VECTOR_RM_DOUBLE_QUAD: Place = Place {
+    spot: Spot::VectorRm,
+    size: Extent::DoubleQuad,
+};
+
+const VECTOR_IMMEDIATE: Place = Place {
+    spot: Spot::VectorImmediate,
+    size: Extent::Vector,
+};
+
+const XMM0: Place = Place {
+    spot: Spot::Xmm0,
+    size: Extent::Vector,
+};
+
+const MEMORY_VECTOR: Place = Place {
+    spot: Spot::Memory,
+    size: Extent::Vector,
+};
+
+const VECTOR_MEMORY: Place = Place {
+    spot: Spot::VectorMemory,
+    size: Extent::Vector,
+};
+
+const OPMASK_REG: Place = Place {
+    spot: Spot::OpmaskReg,
+    size: Extent::Vector,
+};
+
+const OPMASK_RM: Place = Place {
+    spot: Spot::OpmaskRm,
+    size: Extent::Vector,
+};
+
+const OPMASK_VVVV: Place = Place {
+    spot: Spot::OpmaskVvvv,
+    size: Extent::Vector,
+};
 
 /// Operands of which none is in ModRM.
 #[inline]
 fn bare(first: Place, second: Place, immediate: u8) -> Layout
-    ensures { result ≡ record { first = first; second = second; third = nowhere; fourth = nowhere; modrm = false;
-        immediate = immediate; form = Either } }
+    ensures { result ≡ record {
+      first = first;
+      second = second;
+      third = nowhere;
+      fourth = nowhere;
+      modrm = false;
+      immediate = immediate;
+      form = Either;
+    } }
 {
     Layout {
         first,
@@ -64,8 +222,15 @@ fn bare(first: Place, second: Place, immediate: u8) -> Layout
 /// Operands behind which ModRM follows the opcode.
 #[inline]
 fn modrm(form: Form, first: Place, second: Place, third: Place, immediate: u8) -> Layout
-    ensures { result ≡ record { first = first; second = second; third = third; fourth = nowhere; modrm = true;
-        immediate = immediate; form = form } }
+    ensures { result ≡ record {
+      first = first;
+      second = second;
+      third = third;
+      fourth = nowhere;
+      modrm = true;
+      immediate = immediate;
+      form = form;
+    } }
 {
     Layout {
         first,
@@ -129,9 +294,21 @@ pub fn layout(operands: Operands) -> Layout
         Operands::GvEvBv => modrm(Form::Either, REG_SCALAR, RM_SCALAR, VVVV_SCALAR, 0),
         Operands::BvEv => modrm(Form::Either, VVVV_SCALAR, RM_SCALAR, NOWHERE, 0),
         Operands::VxHxWx => modrm(Form::Either, VECTOR_REG, VECTOR_VVVV, VECTOR_RM, 0),
-        Operands::VxHxWxIb => Layout { fourth: IMMEDIATE_BYTE, ..modrm(Form::Either, VECTOR_REG, VECTOR_VVVV, VECTOR_RM, 1) },
-        Operands::VxHxWdq => modrm(Form::Either, VECTOR_REG, VECTOR_VVVV, VECTOR_RM_DOUBLE_QUAD, 0),
-        Operands::VxHxWxLx => Layout { fourth: VECTOR_IMMEDIATE, ..modrm(Form::Either, VECTOR_REG, VECTOR_VVVV, VECTOR_RM, 1) },
+        Operands::VxHxWxIb => Layout {
+            fourth: IMMEDIATE_BYTE,
+            ..modrm(Form::Either, VECTOR_REG, VECTOR_VVVV, VECTOR_RM, 1)
+        },
+        Operands::VxHxWdq => modrm(
+            Form::Either,
+            VECTOR_REG,
+            VECTOR_VVVV,
+            VECTOR_RM_DOUBLE_QUAD,
+            0,
+        ),
+        Operands::VxHxWxLx => Layout {
+            fourth: VECTOR_IMMEDIATE,
+            ..modrm(Form::Either, VECTOR_REG, VECTOR_VVVV, VECTOR_RM, 1)
+        },
         Operands::VxWx => modrm(Form::Either, VECTOR_REG, VECTOR_RM, NOWHERE, 0),
         Operands::VxWxIb => modrm(Form::Either, VECTOR_REG, VECTOR_RM, IMMEDIATE_BYTE, 1),
         Operands::VxWxXmm0 => modrm(Form::Either, VECTOR_REG, VECTOR_RM, XMM0, 0),
@@ -148,7 +325,10 @@ pub fn layout(operands: Operands) -> Layout
         Operands::UxHxVx => modrm(Form::Register, VECTOR_RM, VECTOR_VVVV, VECTOR_REG, 0),
         Operands::VxEv => modrm(Form::Either, VECTOR_REG, RM_SCALAR, NOWHERE, 0),
         Operands::EvVx => modrm(Form::Either, RM_SCALAR, VECTOR_REG, NOWHERE, 0),
-        Operands::VxHxEvIb => Layout { fourth: IMMEDIATE_BYTE, ..modrm(Form::Either, VECTOR_REG, VECTOR_VVVV, RM_SCALAR, 1) },
+        Operands::VxHxEvIb => Layout {
+            fourth: IMMEDIATE_BYTE,
+            ..modrm(Form::Either, VECTOR_REG, VECTOR_VVVV, RM_SCALAR, 1)
+        },
         Operands::EvVxIb => modrm(Form::Either, RM_SCALAR, VECTOR_REG, IMMEDIATE_BYTE, 1),
         Operands::VxRv => modrm(Form::Register, VECTOR_REG, RM_SCALAR, NOWHERE, 0),
         Operands::GvUx => modrm(Form::Register, REG_SCALAR, VECTOR_RM, NOWHERE, 0),
@@ -157,7 +337,10 @@ pub fn layout(operands: Operands) -> Layout
         Operands::VxVmHx => modrm(Form::Memory, VECTOR_REG, VECTOR_MEMORY, VECTOR_VVVV, 0),
         Operands::VmVx => modrm(Form::Memory, VECTOR_MEMORY, VECTOR_REG, NOWHERE, 0),
         Operands::KxHxWx => modrm(Form::Either, OPMASK_REG, VECTOR_VVVV, VECTOR_RM, 0),
-        Operands::KxHxWxIb => Layout { fourth: IMMEDIATE_BYTE, ..modrm(Form::Either, OPMASK_REG, VECTOR_VVVV, VECTOR_RM, 1) },
+        Operands::KxHxWxIb => Layout {
+            fourth: IMMEDIATE_BYTE,
+            ..modrm(Form::Either, OPMASK_REG, VECTOR_VVVV, VECTOR_RM, 1)
+        },
         Operands::KxUx => modrm(Form::Register, OPMASK_REG, VECTOR_RM, NOWHERE, 0),
         Operands::VxKx => modrm(Form::Register, VECTOR_REG, OPMASK_RM, NOWHERE, 0),
         Operands::KxKx => modrm(Form::Register, OPMASK_REG, OPMASK_RM, NOWHERE, 0),

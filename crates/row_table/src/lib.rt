@@ -11,8 +11,8 @@ mod table;
 
 pub use finding::{find, is_used, row, row_count, shape};
 pub use kinds::{
-    Align, Class, Decoded, Extent, Fields, Form, Layout, Level, MaskKind, Operands, Place, Prefix, Row, Shape,
-    Spot, Tuple,
+    Align, Class, Decoded, Extent, Fields, Form, Layout, Level, MaskKind, Operands, Place, Prefix,
+    Row, Shape, Spot, Tuple,
 };
 pub use layouts::layout;
 pub use matching::wants_sib;
