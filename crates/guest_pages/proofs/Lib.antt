@@ -13,3 +13,4 @@ pub mod Chains
 pub mod Files
 pub mod Marks
 pub mod Keeps
+pub mod Carries

@@ -1,8 +1,7 @@
 -- Lemmas on the pages that a write touches.
-use Rattle.std.proofs.Common.{◌≡◌, ◌≢◌, ℕ, ◌+◌, ◌-◌, ◌/◌, ◌%◌, ◌<◌, ◌≤◌, Bool, true, false, cond, Option, Some, None, ◌==◌, ◌&&◌, ◌||◌, nat_lt, nat_le, refl, sym, ap, ◌∙◌, ⊎_elim, arith, add-zero}
+use Rattle.std.proofs.Common.{◌≡◌, ◌≢◌, ℕ, ◌+◌, ◌-◌, ◌/◌, ◌%◌, ◌<◌, ◌≤◌, Bool, true, false, cond, Option, Some, ◌==◌, ◌&&◌, ◌||◌, nat_lt, nat_le, refl, sym, ap, ◌∙◌, ⊎_elim, arith, add-zero}
 use Rattle.std.proofs.lemmas.Bool.{lt-ltb, le-ltb, le-leb, lt-leb, eq-eqb, ne_eqb, cases_lt, cases_eq}
 use Rattle.std.proofs.Math.Nat.{sub-zero}
-use Rattle.std.specs.Option.{option_map}
 use Rattle.guest_pages.specs.declared.entry.Mark.{Mark}
 use Rattle.guest_pages.specs.declared.entry.Mark.TheVariants.{Written}
 use Rattle.guest_pages.specs.Changes.{Marks, touches, written_marks}
@@ -25,7 +24,7 @@ touch_above addr len page high = rw (lt-leb page ((addr + len - 1) / 4096) high)
     above_case true false = refl
     above_case false b = refl
 
-touch_there : (addr len page : ℕ) → 0 < len → addr / 4096 ≤ page → page ≤ (addr + len - 1) / 4096 → touches addr len page ≡ true
+pub touch_there : (addr len page : ℕ) → 0 < len → addr / 4096 ≤ page → page ≤ (addr + len - 1) / 4096 → touches addr len page ≡ true
 touch_there addr len page some low high = rw (lt-ltb 0 len some, le-leb (addr / 4096) page low, le-leb page ((addr + len - 1) / 4096) high) refl
 
 -- an access within one page touches that page alone
@@ -65,10 +64,8 @@ touches_on addr from end page h = ⊎_elim
     (cases_eq end from))
     (cases_eq from 0)
 
-twice_case : (a b : Bool) (mark : Option Mark)
-    → cond b (option_map (λ _. Written) (cond a (option_map (λ _. Written) mark) mark)) (cond a (option_map (λ _. Written) mark) mark) ≡ cond (a || b) (option_map (λ _. Written) mark) mark
-twice_case true true None = refl
-twice_case true true (Some mark) = refl
+twice_case : (a b : Bool) (mark : Option Mark) → cond b (Some Written) (cond a (Some Written) mark) ≡ cond (a || b) (Some Written) mark
+twice_case true true mark = refl
 twice_case true false mark = refl
 twice_case false true mark = refl
 twice_case false false mark = refl
@@ -77,7 +74,7 @@ twice_case false false mark = refl
 pub written_marks_on : (marks : Marks) (addr from end : ℕ) → from ≤ end → written_marks (written_marks marks addr from) (addr + from) (end - from) ≡ written_marks marks addr end
 written_marks_on marks addr from end h = λ i page.
     (twice_case (touches addr from page) (touches (addr + from) (end - from) page) (marks page)
-    ∙ ap (λ (b : Bool). cond b (option_map (λ _. Written) (marks page)) (marks page)) (sym (touches_on addr from end page h))) i
+    ∙ ap (λ (b : Bool). cond b (Some Written) (marks page)) (sym (touches_on addr from end page h))) i
 
 pub written_marks_none : (marks : Marks) (addr : ℕ) → written_marks marks addr 0 ≡ marks
-written_marks_none marks addr = λ i page. ap (λ (b : Bool). cond b (option_map (λ _. Written) (marks page)) (marks page)) (touch_none addr page) i
+written_marks_none marks addr = λ i page. ap (λ (b : Bool). cond b (Some Written) (marks page)) (touch_none addr page) i

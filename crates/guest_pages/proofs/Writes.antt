@@ -9,15 +9,16 @@ use Rattle.guest_pages.specs.declared.entry.Entry.{Entry}
 use Rattle.guest_pages.specs.declared.entry.Mark.{Mark}
 use Rattle.guest_pages.specs.declared.entry.Place.{Place}
 use Rattle.guest_pages.specs.declared.entry.Place.TheVariants.{Resident, Zeros, Swapped}
-use Rattle.guest_pages.specs.Entry.{slot_frame, entry_with, slot_with, is_resident, is_in_frame, mark_in, place_with, place_marked}
+use Rattle.guest_pages.specs.Entry.{slot_frame, entry_with, slot_with, is_resident, is_in_frame, mark_in, place_with, place_marked, IsLent}
 use Rattle.guest_pages.specs.Table.{blocked, away_at, perms_in}
 use Rattle.guest_pages.specs.Pages.{PagesValue, table_of, byte_of, mark_of, lent}
-use Rattle.guest_pages.specs.Changes.{IsWritten, Marks, with_mark, written_marks}
+use Rattle.guest_pages.specs.Changes.{IsShown, IsWritten, Marks, with_mark, written_marks}
 use Rattle.guest_pages.specs.Slots.{LacksPage, IsSeatOf, CanTake, AreSound, IsKept}
 use Rattle.guest_pages.proofs.Seats.{seek_at, entry_there, take_seat}
 use Rattle.guest_pages.proofs.Tables.{table_at, table_none}
-use Rattle.guest_pages.proofs.Takes.{taken, size_taken, byte_taken, mark_taken, mark_at, table_kept, count_kept}
+use Rattle.guest_pages.proofs.Takes.{taken, size_taken, byte_taken, mark_taken, table_kept, count_kept}
 use Rattle.guest_pages.proofs.Walks.{ready_here}
+use Rattle.guest_pages.proofs.Shows.{shown_there}
 use Rattle.machine_state.specs.declared.kinds.Miss.TheVariants.{Away, NonCanonical, Unmapped}
 use Rattle.guest_pages.specs.declared.lists.Lists.{Lists}
 use Rattle.guest_pages.specs.declared.entry.Mark.TheVariants.{Written}
@@ -70,10 +71,11 @@ pub ready_frame : (pages : PagesValue) (kind : Kind) (addr k len : ℕ) → IsSe
 ready_frame pages kind addr k len seat some ready = let entry = ready_entry pages kind addr k len seat some ready in rw entry.1 entry.3
 
 pub ready_held : (pages : PagesValue) (kind : Kind) (addr k len : ℕ) → IsSeatOf pages.slots (addr / 4096) k → 0 < len → blocked (table_of pages) kind addr len ≡ None
-    → IfSome (slot_frame (get_or pages.slots k None)) (λ bytes. length bytes ≡ 4096) → IsHeld pages addr k
-ready_held pages kind addr k len seat some ready whole =
+    → (at : ℕ) (part : List ℕ) → IfSome (slot_frame (get_or pages.slots k None)) (IsLent at len part) → IsHeld pages addr k
+ready_held pages kind addr k len seat some ready at part lent =
     let entry = ready_entry pages kind addr k len seat some ready in
     let place = place_there entry.0.place entry.3 in
+    let is : IsLent at len part place.0 = rw (entry.1, place.2) at lent in
     record {
       seat = seat;
       entry = entry.0;
@@ -82,8 +84,15 @@ ready_held pages kind addr k len seat some ready whole =
       bytes = place.0;
       mark = place.1;
       place_is = place.2;
-      whole = rw (entry.1, place.2) at whole;
+      whole = is.whole;
     }
+
+-- a part that is lent shows the bytes of its page
+pub lent_shown : (pages : PagesValue) (addr k len : ℕ) (part : List ℕ) → IsHeld pages addr k → addr % 4096 + len ≤ 4096
+    → IfSome (slot_frame (get_or pages.slots k None)) (IsLent (addr % 4096) len part) → IsShown pages addr len part
+lent_shown pages addr k len part held fits lent =
+    let is : IsLent (addr % 4096) len part held.bytes = rw (held.is, held.place_is) at lent in
+    shown_there pages addr k len held.bytes part held.seat (rw (held.is, held.place_is) refl) fits held.whole is.is
 
 pub lent_at : (pages : PagesValue) (addr k : ℕ) (entry : Entry) (other : List ℕ) → IsSeatOf pages.slots (addr / 4096) k → get_or pages.slots k None ≡ Some entry
     → lent pages addr other ≡ taken pages k (entry_with entry (addr % 4096) other)
@@ -130,8 +139,7 @@ module _ (pages : PagesValue) (addr k : ℕ) (held : IsHeld pages addr k) (sound
   marks_at page = ⊎_elim
       (λ (same : page ≡ held.entry.page).
       let here : page ≡ addr / 4096 = same ∙ held.page_is in
-      let mark : mark_of pages (addr / 4096) ≡ Some held.mark = mark_at pages (addr / 4096) k held.entry held.seat held.is ∙ rw held.place_is refl in
-      rw (eq-eqb page held.entry.page same, touches_within addr (length other) page some fits, eq-eqb page (addr / 4096) here, here, mark) refl)
+      rw (eq-eqb page held.entry.page same, touches_within addr (length other) page some fits, eq-eqb page (addr / 4096) here) refl)
       (λ (apart : page ≢ held.entry.page).
       let off : page ≢ addr / 4096 = λ e. apart (e ∙ sym held.page_is) in
       rw (ne_eqb page held.entry.page apart, touches_within addr (length other) page some fits, ne_eqb page (addr / 4096) off) refl)

@@ -1,5 +1,5 @@
 -- What the calls on pages show and change.
-use Rattle.std.specs.Prelude.{ℕ, ◌≡◌, ◌≢◌, ◌+◌, ◌-◌, ◌/◌, ◌<◌, ◌==◌, Bool, ◌&&◌, if◌then◌else◌, List, length, Option, Some, None, is_some, nat_lt, nat_le}
+use Rattle.std.specs.Prelude.{ℕ, ◌≡◌, ◌≢◌, ◌+◌, ◌-◌, ◌/◌, ◌<◌, ◌==◌, ◌⊎◌, Bool, ◌&&◌, if◌then◌else◌, List, length, Option, Some, None, is_some, nat_lt, nat_le}
 use Rattle.std.specs.Option.{option_map}
 use Rattle.machine_state.specs.Memory.{Swap, bytes_at, written, zeroed}
 use Rattle.guest_pages.specs.declared.entry.Mark.{Mark}
@@ -12,11 +12,18 @@ pub record KeepsSize (old new : PagesValue) : Type 0 where
   pub frames : new.frames ≡ old.frames
   pub pages : length new.slots ≡ length old.slots
 
--- the same pages are mapped, in the same slots, with the same permissions, and the same of them are in frames
+-- a page's mark and bytes stay
+pub record KeepsPage (old new : PagesValue) (page : ℕ) : Type 0 where
+  pub mark : mark_of new page ≡ mark_of old page
+  pub bytes : (swap : Swap) (addr : ℕ) → addr / 4096 ≡ page → byte_of new swap addr ≡ byte_of old swap addr
+
+-- the same pages are mapped, in the same slots, with the same permissions, and the same of them are in frames; each page
+-- stays as it was or is marked as written
 pub record KeepsTable (old new : PagesValue) : Type 0 where
   pub size : KeepsSize old new
   pub table : table_of new ≡ table_of old
   pub count : mapped_count new ≡ mapped_count old
+  pub pages : (page : ℕ) → KeepsPage old new page ⊎ (mark_of new page ≡ Some Written)
 
 -- every mapped page is in a frame
 abbrev pub AllResident : PagesValue → Type 0
@@ -36,7 +43,7 @@ touches addr len page = nat_lt 0 len && nat_le (addr / 4096) page && nat_le page
 
 -- marks after a write: the pages that it touches count as written
 abbrev pub written_marks : Marks → ℕ → ℕ → Marks
-written_marks marks addr len page = if touches addr len page then option_map (λ _. Written) (marks page) else marks page
+written_marks marks addr len page = if touches addr len page then Some Written else marks page
 
 -- no page is mapped
 pub record IsBlank (pages : PagesValue) (frames most : ℕ) : Type 0 where

@@ -1,5 +1,5 @@
 -- A mapped page, and where its bytes are.
-use Rattle.std.specs.Prelude.{ℕ, List, Bool, true, false, Option, Some, None, IsSomeAnd, slice_index, ◌==◌, ◌≡◌, All, if◌then◌else◌}
+use Rattle.std.specs.Prelude.{ℕ, List, Bool, true, false, Option, Some, None, IsSomeAnd, slice_index, slice_range, length, ◌+◌, ◌==◌, ◌≡◌, All, if◌then◌else◌}
 use Rattle.machine_state.specs.Memory.{permits}
 use Rattle.machine_state.specs.declared.kinds.Kind.{Kind}
 use Rattle.machine_state.specs.declared.permissions.Perms.{Perms}
@@ -73,6 +73,11 @@ place_frame Swapped = None
 abbrev pub slot_frame : Option Entry → Option (List ℕ)
 slot_frame None = None
 slot_frame (Some entry) = place_frame entry.place
+
+-- a part of a whole page's bytes
+pub record IsLent (at len : ℕ) (part bytes : List ℕ) : Type 0 where
+  pub whole : length bytes ≡ 4096
+  pub is : part ≡ slice_range bytes at (at + len)
 
 -- the slot of a page that isn't in a frame
 abbrev pub away_slot_of : Option Entry → ℕ → Option ℕ

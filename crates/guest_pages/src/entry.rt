@@ -2,7 +2,7 @@
 ghost use Rattle.std.specs.Prelude.{◌≡◌, ◌≤◌, ◌+◌, None, true, is_some, length, IfSome};
 ghost use Rattle.std.specs.Borrow.{sem};
 ghost use Rattle.std.specs.Option.{option_copied};
-ghost use Rattle.guest_pages.specs.Entry.{is_resident, place_marked, place_frame, holds_page, slot_permits, slot_frame, is_in_frame, IsZeros, IsZeroedSlot, slot_protected};
+ghost use Rattle.guest_pages.specs.Entry.{is_resident, place_marked, place_frame, holds_page, slot_permits, slot_frame, is_in_frame, IsLent, IsZeros, IsZeroedSlot, slot_protected};
 ghost use Rattle.guest_pages.specs.EntryLends.{LendsPlace, LendsEntry, LendsSlot};
 
 use crate::frame::Frame;
@@ -77,7 +77,7 @@ impl Place {
         requires fits { at + len ≤ 4096 }
         ensures* writes_back { sem 𝓛 (LendsPlace self.entry at result) }
         ensures len { length result.now ≡ len }
-        ensures whole { IfSome (place_frame self.old) (λ bytes. length bytes ≡ 4096) }
+        ensures lent { IfSome (place_frame self.old) (IsLent at len result.now) }
     {
         match self {
             Place::Resident(frame, _) => frame.lend(at, len),
@@ -101,7 +101,7 @@ impl Entry {
         requires fits { at + len ≤ 4096 }
         ensures* writes_back { sem 𝓛 (LendsEntry self.entry at result) }
         ensures len { length result.now ≡ len }
-        ensures whole { IfSome (place_frame self.old.place) (λ bytes. length bytes ≡ 4096) }
+        ensures lent { IfSome (place_frame self.old.place) (IsLent at len result.now) }
     {
         self.place.mark_written();
         self.place.lend(at, len)
@@ -140,7 +140,7 @@ pub(crate) fn lend(slot: &mut Option<Entry>, at: usize, len: usize) -> &mut [u8]
     requires fits { at + len ≤ 4096 }
     ensures* writes_back { sem 𝓛 (LendsSlot slot.entry at result) }
     ensures len { length result.now ≡ len }
-    ensures whole { IfSome (slot_frame slot.old) (λ bytes. length bytes ≡ 4096) }
+    ensures lent { IfSome (slot_frame slot.old) (IsLent at len result.now) }
 {
     match slot {
         Some(entry) => entry.lend(at, len),

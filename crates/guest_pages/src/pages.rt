@@ -182,6 +182,9 @@ impl Pages {
         requires some { 0 < len }
         requires one_page { addr % 4096 + len ≤ 4096 }
         ensures len { IfOk result (λ part. length part.now ≡ len) }
+        ensures bytes { IfOk result (λ part. IsShown self.old addr len part.now) }
+        ensures written { OnOk result ((bytes : List ℕ) → length bytes ≡ len
+            → IsWritten self.old (lent self.old addr bytes) addr bytes) }
         ensures answer { MatchResult result (λ _. blocked (table_of self.old) Kind.Write addr len ≡ None)
             (λ miss. blocked (table_of self.old) Kind.Write addr len ≡ Some miss) }
     {
@@ -196,6 +199,7 @@ impl Pages {
         requires ready { blocked (table_of self.old) Kind.Write addr len ≡ None }
         ensures* writes_back { sem 𝓛 (LendsPages self.entry addr result) }
         ensures len { length result.now ≡ len }
+        ensures bytes { IsShown self.old addr len result.now }
         ensures written { (bytes : List ℕ) → length bytes ≡ len
             → IsWritten self.old (lent self.old addr bytes) addr bytes }
     {

@@ -2,7 +2,7 @@ use Rattle.std.proofs.Common.{None, refl, get_or}
 use Rattle.std.proofs.lemmas.List.{get_or_read}
 use Rattle.machine_state.specs.declared.kinds.Kind.TheVariants.{Write}
 use Rattle.guest_pages.proofs.Seats.{entry_there}
-use Rattle.guest_pages.proofs.Writes.{written_there, ready_frame, ready_held, lent_kept, lent_view, never_lacks}
+use Rattle.guest_pages.proofs.Writes.{written_there, ready_frame, ready_held, lent_shown, lent_kept, lent_view, never_lacks}
 use Rattle.guest_pages.proofs.pages.Pages.lend_ready.Goals as goal
 
 pub lend-requires-clause-resident : goal.lend-requires-clause-resident
@@ -28,7 +28,7 @@ returns c =
     let read = get_or_read c.self.inside.slots.items c.in-Some.k c.index_mut-slot.result.now c.in-Some.ensures.within c.index_mut-slot.ensures.value None in
     let entry = entry_there (get_or c.self.inside.slots.items c.in-Some.k None) _ c.in-Some.ensures.here in
     let held = ready_held (record { frames = c.self.inside.frames; slots = c.self.inside.slots.items }) Write c.args.addr c.in-Some.k c.args.len c.in-Some.ensures c.requires.some
-    (rw (← c.self.view_is) at c.requires.ready) (rw read at c.lend.ensures.whole) in (
+    (rw (← c.self.view_is) at c.requires.ready) _ _ (rw read at c.lend.ensures.lent) in (
       (
         refl,
         λ w.
@@ -38,6 +38,9 @@ returns c =
       record {
         writes_back = tt;
         len = c.lend.ensures.len;
+        bytes =
+            rw (← c.self.view_is)
+            (lent_shown (record { frames = c.self.inside.frames; slots = c.self.inside.slots.items }) c.args.addr c.in-Some.k c.args.len c.lend.result.now held c.requires.one_page (rw read at c.lend.ensures.lent));
         written = λ bytes len.
             rw (← c.self.view_is)
             (written_there (record { frames = c.self.inside.frames; slots = c.self.inside.slots.items }) c.args.addr c.in-Some.k held c.self.invariant.sound bytes (rw len c.requires.some) (rw len c.requires.one_page));
