@@ -1,0 +1,39 @@
+"""Runs a small program over the repository's crates, built without a proof in a folder of its own (`rt try`)."""
+import re
+import shutil
+import subprocess
+import sys
+
+SECONDS = "600"
+CHUNK = 4000        # lines a run: what a program may print is limited
+
+
+def build(root, folder, crates, name, uses, main):
+    """A repository with these crates and the program NAME, whose text is `main`. Returns the program's folder."""
+    for crate in crates:
+        shutil.copytree(root / "crates" / crate, folder / "crates" / crate,
+                        ignore=shutil.ignore_patterns("out", "must-fail", "tests", "tests.rt"))
+        library = folder / "crates" / crate / "src" / "lib.rt"
+        library.write_text(library.read_text().replace("#[cfg(test)]\nmod tests;\n", ""))
+    wanted = [line for line in (root / "crates.txt").read_text().splitlines() if line.split(":")[0] in crates]
+    (folder / "crates.txt").write_text("\n".join(wanted + [f"{name}: {uses}"]) + "\n")
+    (folder / "HANDLES").write_text((root / "HANDLES").read_text())
+    program = folder / "crates" / name
+    (program / "src").mkdir(parents=True)
+    (program / "src" / "main.rt").write_text(main)
+    return program
+
+
+def ask(program, lines, answer):
+    """What the program says to each line: the lines of its output that match the pattern `answer`, one for each. It is built
+    once, and run on the lines by parts."""
+    cases = program.parent.parent / "cases"
+    shutil.rmtree(cases, ignore_errors=True)
+    cases.mkdir()
+    for at in range(0, len(lines), CHUNK):
+        (cases / f"{at // CHUNK:05}").write_text("".join(line + "\n" for line in lines[at:at + CHUNK]))
+    run = subprocess.run(["rt", "try", "--seconds", SECONDS, "--cases", str(cases)], cwd=program, capture_output=True, text=True)
+    answers = [line for line in run.stdout.splitlines() if re.fullmatch(answer, line)]
+    if len(answers) != len(lines):
+        sys.exit(f"the program answered {len(answers)} of {len(lines)} lines:\n{(run.stdout + run.stderr)[-3000:]}")
+    return answers
