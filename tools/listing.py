@@ -30,6 +30,19 @@ def rows():
     return found
 
 
+def parts(code):
+    """The prefixes of some bytes, the map, the opcode and the byte behind it (0 where there is none)."""
+    at = 0
+    while code[at] in b"\xf0\xf2\xf3\x2e\x36\x3e\x26\x64\x65\x66\x67" or 0x40 <= code[at] <= 0x4F:
+        at += 1
+    front, map_ = code[:at], 0
+    if code[at] == 0x0F:
+        at, map_ = at + 1, 1
+        if code[at] in (0x38, 0x3A):
+            at, map_ = at + 1, 2 if code[at] == 0x38 else 3
+    return front, map_, code[at], (code + b"\0")[at + 1]
+
+
 def mark(front):
     """The mandatory prefix of some prefixes, in the words of the listing."""
     repeats = [byte for byte in front if byte in b"\xf2\xf3"]

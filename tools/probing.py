@@ -5,7 +5,6 @@ import subprocess
 import sys
 
 SECONDS = "600"
-CHUNK = 4000        # lines a run: what a program may print is limited
 
 
 def build(root, folder, crates, name, uses, main):
@@ -24,14 +23,14 @@ def build(root, folder, crates, name, uses, main):
     return program
 
 
-def ask(program, lines, answer):
+def ask(program, lines, answer, most):
     """What the program says to each line: the lines of its output that match the pattern `answer`, one for each. It is built
-    once, and run on the lines by parts."""
+    once, and run on at most so many lines at a time, since what it may print is limited."""
     cases = program.parent.parent / "cases"
     shutil.rmtree(cases, ignore_errors=True)
     cases.mkdir()
-    for at in range(0, len(lines), CHUNK):
-        (cases / f"{at // CHUNK:05}").write_text("".join(line + "\n" for line in lines[at:at + CHUNK]))
+    for at in range(0, len(lines), most):
+        (cases / f"{at // most:05}").write_text("".join(line + "\n" for line in lines[at:at + most]))
     run = subprocess.run(["rt", "try", "--seconds", SECONDS, "--cases", str(cases)], cwd=program, capture_output=True, text=True)
     answers = [line for line in run.stdout.splitlines() if re.fullmatch(answer, line)]
     if len(answers) != len(lines):

@@ -67,8 +67,26 @@ class Places:
 
 
 def data_byte(offset):
-    """The data page at the start."""
+    """The data page, before a start puts its bytes there."""
     return (offset * 7 + 1) % 256
+
+
+def byte_before(places, start, at):
+    """The byte at an address of the data page, at a start."""
+    if start.put_at <= at < start.put_at + len(start.put):
+        return start.put[at - start.put_at]
+    return data_byte(at - places.data)
+
+
+def drop_trap_flag(places, start, end):
+    """What PUSHF stores has the trap flag under single steps: takes it out of an end."""
+    at = end.registers.get(4, 0) + 1
+    if end.how != "done" or not places.data <= at < places.data + PAGE:
+        return
+    before = byte_before(places, start, at)
+    stored = end.memory.pop(at, before) & 0xFE
+    if stored != before:
+        end.memory[at] = stored
 
 
 SOURCE = r"""

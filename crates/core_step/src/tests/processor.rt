@@ -3,6 +3,7 @@
 //! pointer is then. A state has registers by their numbers, the flags word, and bytes by their addresses.
 //!
 //! At the start the instruction stands at 400100H, CF alone is set, and the data page is as the tests fill it.
+//! `tools/processor_rows` takes all of these rows anew on the processor that it runs on, and makes further ones.
 
 pub type State = (&'static [(u8, u64)], u64, &'static [(u64, &'static [u8])]);
 
