@@ -14,3 +14,4 @@ pub mod Files
 pub mod Marks
 pub mod Keeps
 pub mod Carries
+pub mod Laws

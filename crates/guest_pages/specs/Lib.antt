@@ -7,6 +7,7 @@ pub mod Table
 pub mod Walk
 pub mod Pages
 pub mod Changes
+pub mod Laws
 pub mod Lists
 pub mod Slots
 pub mod PagesLends

@@ -49,6 +49,7 @@ impl Pages {
     ghost use Rattle.guest_pages.specs.Table.{perms_in, blocked, answer_of, in_frame};
     ghost use Rattle.guest_pages.specs.Pages.{table_of, mapped_count, resident_count, lent};
     ghost use Rattle.guest_pages.specs.Changes.{AllResident, IsBlank, IsShown, IsWritten, IsMapped, IsUnmapped, IsProtected, IsZeroed};
+    ghost use Rattle.guest_pages.specs.Laws.{AreCounted, HaveSlots};
     ghost use Rattle.guest_pages.specs.Slots.{LacksPage, IsSeatOf, IsGranted, CanTake, IsWalked};
     ghost use Rattle.guest_pages.specs.Entry.{away_slot_of};
     ghost use Rattle.guest_pages.specs.PagesLends.{LendsPages};
@@ -72,6 +73,15 @@ impl Pages {
             lists,
             free,
         })
+    }
+
+    /// How many pages may be mapped. The other clauses hold of pages at any time; a caller that needs them calls this.
+    pub fn limit(&self) -> usize
+        ensures value { result ≡ length self.now.slots }
+        ensures counts { AreCounted self.now }
+        ensures slots { HaveSlots self.now }
+    {
+        self.slots.len()
     }
 
     // The slot of a page.

@@ -1,0 +1,8 @@
+use Rattle.guest_pages.proofs.Laws.{pages_counted, pages_slots}
+use Rattle.guest_pages.proofs.pages.Pages.limit.Goals as goal
+
+pub returns-clause-counts : goal.returns-clause-counts
+returns-clause-counts c = rw (← c.self.view_is) (pages_counted _ _ _ c.self.invariant.sound c.self.invariant.shares)
+
+pub returns-clause-slots : goal.returns-clause-slots
+returns-clause-slots c = pages_slots c.args.self.now

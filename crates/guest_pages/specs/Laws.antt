@@ -1,0 +1,26 @@
+-- What holds of pages at any time.
+use Rattle.std.specs.Prelude.{ℕ, ◌≡◌, ◌<◌, ◌≤◌, ◌==◌, List, length, Some, is_some, nat_eq, count_by}
+use Rattle.std.specs.List.{list_any, IsDistinct}
+use Rattle.guest_pages.specs.Table.{Mapped, Table, in_frame}
+use Rattle.guest_pages.specs.Pages.{PagesValue, table_of, mapped_count, resident_count}
+
+-- these are the mapped pages, each once
+pub record AreMapped (table : Table) (pages : List ℕ) : Type 0 where
+  pub once : IsDistinct nat_eq pages
+  pub has : (page : ℕ) → list_any (λ other. page == other) pages ≡ is_some (table page)
+
+-- what the counts of pages count: the mapped pages, no more than there are slots, and those in frames, no more than there
+-- are frames
+pub record AreCounted (pages : PagesValue) : Type 0 where
+  pub mapped : List ℕ
+  pub mapped_are : AreMapped (table_of pages) mapped
+  pub count : mapped_count pages ≡ length mapped
+  pub most : mapped_count pages ≤ length pages.slots
+  pub frames : resident_count pages ≡ count_by (λ page. in_frame (table_of pages page)) mapped
+  pub room : resident_count pages ≤ pages.frames
+
+-- each mapped page has a slot of its own
+pub record HaveSlots (pages : PagesValue) : Type 0 where
+  pub within : (page : ℕ) (mapped : Mapped) → table_of pages page ≡ Some mapped → mapped.slot < length pages.slots
+  pub apart : (page other : ℕ) (one two : Mapped) → table_of pages page ≡ Some one → table_of pages other ≡ Some two
+      → one.slot ≡ two.slot → page ≡ other
