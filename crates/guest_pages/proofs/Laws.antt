@@ -1,14 +1,15 @@
 -- Lemmas on what holds of pages at any time.
-use Rattle.std.proofs.Common.{◌≡◌, ℕ, ◌+◌, ◌<◌, ◌≤◌, ◌==◌, ◌||◌, List, [], ◌∷◌, length, get_or, Bool, true, false, cond, Option, Some, None, suc, is_some, nat_eq, count_by, refl, sym, ap, ◌∙◌, ⊎_elim, arith, zero-add}
+use Rattle.std.proofs.Common.{◌≡◌, ℕ, ◌+◌, ◌<◌, ◌/◌, ◌%◌, ◌==◌, ◌||◌, IsSome, List, [], ◌∷◌, length, get_or, Bool, true, false, cond, Option, Some, None, suc, is_some, nat_eq, count_by, refl, sym, ap, ◌∙◌, arith, zero-add}
 use Rattle.std.specs.Option.{option_map}
 use Rattle.std.specs.List.{list_any, IsDistinct, AllByRecursion}
 use Rattle.std.proofs.lemmas.List.Sums.{count_by-le-length, sum_by-cons}
-use Rattle.std.proofs.lemmas.Bool.{cases_Bool, eq-eqb}
+use Rattle.std.proofs.lemmas.Bool.{eq-eqb, false≢true}
+use Rattle.machine_state.specs.Memory.{Swap}
 use Rattle.guest_pages.specs.declared.entry.Entry.{Entry}
-use Rattle.guest_pages.specs.Entry.{holds_page, is_in_frame, is_resident}
+use Rattle.guest_pages.specs.Entry.{is_in_frame, is_resident}
 use Rattle.guest_pages.specs.Table.{Mapped, in_frame}
-use Rattle.guest_pages.specs.Pages.{PagesValue, Seat, seek, mapped_of, table_of, mapped_count, resident_count}
-use Rattle.guest_pages.specs.Laws.{AreMapped, AreCounted, HaveSlots}
+use Rattle.guest_pages.specs.Pages.{PagesValue, Seat, seek, seat_byte, byte_of, mapped_of, table_of, mapped_count, resident_count}
+use Rattle.guest_pages.specs.Laws.{AreMapped, AreCounted, HaveSlots, FitMemory}
 use Rattle.guest_pages.specs.Slots.{LacksPage, AreApart, AreSound, AreShared}
 use Rattle.guest_pages.proofs.Seats.{seat_of, same_page}
 use Rattle.guest_pages.proofs.Tables.{table_at, mapped_entry}
@@ -98,4 +99,20 @@ pages_slots pages = record {
   within = λ page mapped is. (mapped_entry pages page mapped is).0;
   apart = λ page other one two first second same.
       same_page (get_or pages.slots one.slot None) page other (mapped_entry pages page one first).1 (rw same (mapped_entry pages other two second).1);
+}
+
+low_case : (pages : PagesValue) (page : ℕ) → AreSound pages.slots → (there : Option Mapped) → table_of pages page ≡ there → IsSome there → page < 0x800000000
+low_case pages page sound None is some = absurd (false≢true some)
+low_case pages page sound (Some mapped) is some = let seat = mapped_entry pages page mapped is in sound.low mapped.slot page seat.0 seat.1
+
+zero_case : (swap : Swap) (seat : Option Seat) (at : ℕ) → option_map mapped_of seat ≡ None → seat_byte swap seat at ≡ 0
+zero_case swap None at h = refl
+zero_case swap (Some seat) at h = cc
+
+-- pages lie low, and where none is mapped bytes are 0
+pub pages_memory : (pages : PagesValue) → AreSound pages.slots → FitMemory pages
+unfolding table_of byte_of
+pages_memory pages sound = record {
+  low = λ page some. low_case pages page sound (table_of pages page) refl some;
+  zeros = λ swap addr none. zero_case swap (seek 0 pages.slots (addr / 4096)) (addr % 4096) none;
 }

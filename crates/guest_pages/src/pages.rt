@@ -49,7 +49,7 @@ impl Pages {
     ghost use Rattle.guest_pages.specs.Table.{perms_in, blocked, answer_of, in_frame};
     ghost use Rattle.guest_pages.specs.Pages.{table_of, mapped_count, resident_count, lent};
     ghost use Rattle.guest_pages.specs.Changes.{AllResident, IsBlank, IsShown, IsWritten, IsMapped, IsUnmapped, IsProtected, IsZeroed};
-    ghost use Rattle.guest_pages.specs.Laws.{AreCounted, HaveSlots};
+    ghost use Rattle.guest_pages.specs.Laws.{AreCounted, HaveSlots, FitMemory};
     ghost use Rattle.guest_pages.specs.Slots.{LacksPage, IsSeatOf, IsGranted, CanTake, IsWalked};
     ghost use Rattle.guest_pages.specs.Entry.{away_slot_of};
     ghost use Rattle.guest_pages.specs.PagesLends.{LendsPages};
@@ -80,6 +80,7 @@ impl Pages {
         ensures value { result ≡ length self.now.slots }
         ensures counts { AreCounted self.now }
         ensures slots { HaveSlots self.now }
+        ensures memory { FitMemory self.now }
     {
         self.slots.len()
     }

@@ -1,5 +1,5 @@
 -- Guest memory, and why an access can't be made.
-use Rattle.std.specs.Prelude.{ℕ, zero, suc, ◌+◌, ◌-◌, ◌*◌, ◌/◌, ◌%◌, ◌^◌, ◌==◌, Bool, if◌then◌else◌, List, [], ◌∷◌, length, slice_index, Option, Some, None, nat_lt, nat_le, ◌&&◌, ◌||◌}
+use Rattle.std.specs.Prelude.{ℕ, zero, suc, ◌+◌, ◌-◌, ◌*◌, ◌/◌, ◌%◌, ◌^◌, ◌==◌, ◌≡◌, ◌<◌, All, IfSome, Bool, if◌then◌else◌, List, [], ◌∷◌, length, slice_index, Option, Some, None, nat_lt, nat_le, ◌&&◌, ◌||◌}
 use Rattle.std.specs.Int.RustNames.{bit_and}
 use Rattle.byteorder.specs.Endian.{little_number, little_bytes}
 use Rattle.machine_state.specs.declared.kinds.Kind.{Kind}
@@ -16,7 +16,7 @@ pub record Memory : Type 0 where
   pub perms : Permissions
   pub byte : ℕ → ℕ
 
--- whether a set of permissions has one of them: read 1, write 2, execute 4 (ELF-64, p_flags, has the same three)
+-- whether a set of permissions has one of them: read 1, write 2, execute 4 (the PROT_ bits of Linux's mmap)
 abbrev pub has_permission : ℕ → ℕ → Bool
 has_permission perms one = bit_and perms one == one
 
@@ -79,3 +79,19 @@ zeroed byte page at = if at / 4096 == page then 0 else byte at
 -- what a swap holds: the bytes of each of its pages, by number
 abbrev pub Swap : Type 0
 Swap = ℕ → List ℕ
+
+-- bytes are numbers below 256
+abbrev pub AreBytes : List ℕ → Type 0
+AreBytes bytes = All (λ byte. byte < 256) bytes
+
+-- each page on a swap has 4,096 bytes
+pub record IsSwap (swap : Swap) : Type 0 where
+  pub whole : (number : ℕ) → length (swap number) ≡ 4096
+  pub bytes : (number : ℕ) → AreBytes (swap number)
+
+-- guest memory as it can be: pages lie in the lower half of the address space (SDM volume 1, 3.3.7.1), permissions are sets of
+-- the three, and a byte is below 256, and 0 where no page is mapped
+pub record IsMemory (memory : Memory) : Type 0 where
+  pub pages : (page : ℕ) → IfSome (memory.perms page) (λ perms. (page < 2 ^ 47 / 4096) × (perms < 8))
+  pub bytes : (addr : ℕ) → memory.byte addr < 256
+  pub zeros : (addr : ℕ) → memory.perms (addr / 4096) ≡ None → memory.byte addr ≡ 0

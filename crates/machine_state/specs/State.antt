@@ -1,7 +1,8 @@
 -- The machine state: what a program sees of the processor, and its memory.
-use Rattle.std.specs.Prelude.{ℕ, Bool, false, List, [], ◌∷◌, ◌++◌, Option, None, replicate}
+use Rattle.std.specs.Prelude.{ℕ, ◌≡◌, ◌<◌, ◌^◌, Bool, false, List, [], ◌∷◌, ◌++◌, length, slice_index, All, Option, None, IfSome, replicate}
+use Rattle.std.specs.Int.RustNames.{bit_and}
 use Rattle.gpr_flags.specs.declared.kinds.Flags.{Flags}
-use Rattle.machine_state.specs.Memory.{Memory}
+use Rattle.machine_state.specs.Memory.{Memory, AreBytes, IsMemory}
 
 -- what the processor remembers of the last XRSTOR, for XSAVEOPT: the area's address, if there is one, whether that area
 -- was compact, and the set of components that weren't modified since, without component 0 (SDM volume 1, 13.6)
@@ -47,3 +48,45 @@ initial_extended = record {
   x87 = initial_x87;
   restored = no_restored;
 }
+
+-- the components 1, 2, 5, 6 and 7, by bit (SDM volume 1, 13.1): those that a restore record can have; component 0 isn't among
+-- them (this program's own)
+abbrev pub kept_components : ℕ
+kept_components = 0xE6
+
+-- numbers of 64 bits
+abbrev pub AreWords : List ℕ → Type 0
+AreWords numbers = All (λ number. number < 2 ^ 64) numbers
+
+-- a ZMM register (SDM volume 1, 15.1)
+pub record IsVector (vector : List ℕ) : Type 0 where
+  pub len : length vector ≡ 64
+  pub bytes : AreBytes vector
+
+-- a restore record as it can be
+pub record IsRestored (restored : Restored) : Type 0 where
+  pub at : IfSome restored.at (λ addr. addr < 2 ^ 64)
+  pub kept : bit_and restored.kept kept_components ≡ restored.kept
+
+-- extended state as it can be (SDM volume 1, 10.2, 13.4 and 15.1)
+pub record IsExtended (extended : Extended) : Type 0 where
+  pub vectors : length extended.zmm ≡ 32
+  pub vector : All IsVector extended.zmm
+  pub masks : length extended.k ≡ 8
+  pub mask : AreWords extended.k
+  pub mxcsr : extended.mxcsr < 65536
+  pub x87_len : length extended.x87 ≡ 104
+  pub x87_bytes : AreBytes extended.x87
+  pub x87_zero : slice_index extended.x87 5 ≡ 0
+  pub restored : IsRestored extended.restored
+
+-- a machine state as it can be (SDM volume 1, 3.4 and 3.5)
+pub record IsState (state : State) : Type 0 where
+  pub registers : length state.gprs ≡ 16
+  pub register : AreWords state.gprs
+  pub rip : state.rip < 2 ^ 64
+  pub fs : state.fs < 2 ^ 64
+  pub gs : state.gs < 2 ^ 64
+  pub steps : state.steps < 2 ^ 64
+  pub extended : IsExtended state.extended
+  pub memory : IsMemory state.memory

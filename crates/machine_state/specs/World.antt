@@ -1,6 +1,8 @@
 -- The world: a machine state, and what the kernel keeps for it.
-use Rattle.std.specs.Prelude.{ℕ, Bool, false, List, Option, Some, None, if◌then◌else◌, ◌==◌}
-use Rattle.machine_state.specs.State.{State}
+use Rattle.std.specs.Prelude.{ℕ, ◌≡◌, ◌≤◌, ◌<◌, ◌+◌, ◌^◌, Bool, true, false, List, length, All, Option, Some, None, IfSome, if◌then◌else◌, ◌==◌}
+use Rattle.std.specs.Int.RustNames.{bit_and}
+use Rattle.machine_state.specs.Memory.{AreBytes}
+use Rattle.machine_state.specs.State.{State, IsState}
 
 -- what a program does on a signal (struct sigaction of x86-64 Linux)
 pub record Action : Type 0 where
@@ -68,3 +70,50 @@ no_alternate = record { enabled = false; addr = 0; size = 0 }
 abbrev pub first_descriptors : ℕ → Option Descriptor
 first_descriptors number =
     if number == 0 then Some Input else if number == 1 then Some Output else if number == 2 then Some ErrorOutput else None
+
+-- the bits of signals 9 and 19, which can't be blocked (sigprocmask of Linux)
+abbrev pub unblockable : ℕ
+unblockable = 2 ^ 8 + 2 ^ 18
+
+-- an action as it can be
+pub record IsAction (action : Action) : Type 0 where
+  pub handler : action.handler < 2 ^ 64
+  pub flags : action.flags < 2 ^ 64
+  pub restorer : action.restorer < 2 ^ 64
+  pub mask : action.mask < 2 ^ 64
+
+-- an alternate stack as it can be: address and size are 0 where it is disabled, and else it has at least 2,048 bytes
+-- (sigaltstack of Linux, MINSIGSTKSZ)
+pub record IsAlternate (stack : AlternateStack) : Type 0 where
+  pub disabled : stack.enabled ≡ false → (stack.addr ≡ 0) × (stack.size ≡ 0)
+  pub enabled : stack.enabled ≡ true → 2048 ≤ stack.size
+  pub addr : stack.addr < 2 ^ 64
+  pub size : stack.size < 2 ^ 64
+
+-- a file as it can be, with at most so many bytes: one that doesn't exist has none
+pub record IsGuestFile (cap : ℕ) (file : GuestFile) : Type 0 where
+  pub name : AreBytes file.name
+  pub content : AreBytes file.content
+  pub most : length file.content ≤ cap
+  pub absent : file.exists ≡ false → length file.content ≡ 0
+
+-- what a descriptor of one of so many files can stand for
+abbrev pub IsDescriptor : ℕ → Descriptor → Type 0
+IsDescriptor files Input = Unit {0}
+IsDescriptor files Output = Unit {0}
+IsDescriptor files ErrorOutput = Unit {0}
+IsDescriptor files (Opened place) = (place.file < files) × (place.offset < 2 ^ 64)
+
+-- a world as it can be
+pub record IsWorld (world : World) : Type 0 where
+  pub state : IsState world.state
+  pub action : (signal : ℕ) → IsAction (world.actions signal)
+  pub blocked : world.blocked < 2 ^ 64
+  pub unblocked : bit_and world.blocked unblockable ≡ 0
+  pub alternate : IsAlternate world.alternate
+  pub descriptor : (number : ℕ) → IfSome (world.descriptors number) (IsDescriptor (length world.files))
+  pub files : All (IsGuestFile world.cap) world.files
+  pub left : AreBytes world.left
+  pub out : AreBytes world.out
+  pub err : AreBytes world.err
+  pub random : world.random < 2 ^ 64

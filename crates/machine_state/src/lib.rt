@@ -3,7 +3,9 @@
 #![tactic(auto)]
 
 mod kinds;
+mod laws;
 mod permissions;
 
 pub use kinds::{Access, GuestEnd, Kind, Miss, Stop};
+pub use laws::initial_law;
 pub use permissions::Perms;

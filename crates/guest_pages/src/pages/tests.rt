@@ -1,5 +1,6 @@
 //! Pages at work: what each call lets be done with them afterwards.
 use super::*;
+use crate::entry::{Mark, Place};
 use std::process::Abort;
 use std::test::Fail;
 
@@ -126,6 +127,42 @@ fn pages_begin_as_zeros_and_change_alone(rt: HostRuntime) -> Result<(), Fail> {
     assert_eq!(rt; byte_at(&pages, 0x2000), Ok(3));
     assert_eq!(rt; pages.map_page(0x9000, BOTH), Ok(()));
     assert_eq!(rt; pages.map_page(0x3000, BOTH), Err(Full));
+    Ok(())
+}
+
+// The mark of the page with this number, if it is in a frame.
+fn mark_of(pages: &Pages, page: u64) -> Option<Mark> {
+    match pages.seat(page) {
+        Some(k) => match pages.slots.get(k as usize) {
+            Some(Some(entry)) => match &entry.place {
+                Place::Resident(_, mark) => Some(*mark),
+                Place::Zeros | Place::Swapped => None,
+            },
+            Some(None) | None => None,
+        },
+        None => None,
+    }
+}
+
+#[test]
+fn a_write_across_pages_marks_both(rt: HostRuntime) -> Result<(), Fail> {
+    let mut pages = Pages::new(rt.alloc(), 8, 8)?;
+    map_pages(&mut pages, 4)?;
+    assert_eq!(rt; pages.write(0x2FFF, &[7, 8]), Ok(()));
+    expect_bytes(
+        &rt,
+        &pages,
+        &[
+            (0x2FFE, Ok(0)),
+            (0x2FFF, Ok(7)),
+            (0x3000, Ok(8)),
+            (0x3001, Ok(0)),
+        ],
+    );
+    assert_eq!(rt; mark_of(&pages, 1), Some(Mark::Fresh));
+    assert_eq!(rt; mark_of(&pages, 2), Some(Mark::Written));
+    assert_eq!(rt; mark_of(&pages, 3), Some(Mark::Written));
+    assert_eq!(rt; mark_of(&pages, 4), Some(Mark::Fresh));
     Ok(())
 }
 

@@ -1,4 +1,4 @@
-use Rattle.guest_pages.proofs.Laws.{pages_counted, pages_slots}
+use Rattle.guest_pages.proofs.Laws.{pages_counted, pages_slots, pages_memory}
 use Rattle.guest_pages.proofs.pages.Pages.limit.Goals as goal
 
 pub returns-clause-counts : goal.returns-clause-counts
@@ -6,3 +6,6 @@ returns-clause-counts c = rw (← c.self.view_is) (pages_counted _ _ _ c.self.in
 
 pub returns-clause-slots : goal.returns-clause-slots
 returns-clause-slots c = pages_slots c.args.self.now
+
+pub returns-clause-memory : goal.returns-clause-memory
+returns-clause-memory c = rw (← c.self.view_is) (pages_memory _ c.self.invariant.sound)
