@@ -22,7 +22,7 @@ pub told-all : (old new : Option (List ℕ)) (bytes o : List ℕ) → is_some ne
     → (IsSome old → told new ≡ told old ++ bytes) → IsTold old o → IsTold new (o ++ bytes)
 told-all old None bytes o tells all is = tt
 told-all None (Some now) bytes o tells all is = cc
-told-all (Some was) (Some now) bytes o tells all is = ap (λ (xs : List ℕ). xs ++ bytes) is ∙ sym (all tt)
+told-all (Some was) (Some now) bytes o tells all is = ap (λ (xs : List ℕ). xs ++ bytes) is ∙ sym (all refl)
 
 -- what a stream has after a front of them was put
 pub told-front : (old new : Option (List ℕ)) (bytes o : List ℕ) → is_some new ≡ is_some old
@@ -31,7 +31,7 @@ pub told-front : (old new : Option (List ℕ)) (bytes o : List ℕ) → is_some 
 told-front old None bytes o tells front is = (0, tt)
 told-front None (Some now) bytes o tells front is = cc
 told-front (Some was) (Some now) bytes o tells front is =
-    let f = front tt in (f.0, ap (λ (xs : List ℕ). xs ++ take f.0 bytes) is ∙ sym f.2)
+    let f = front refl in (f.0, ap (λ (xs : List ℕ). xs ++ take f.0 bytes) is ∙ sym f.2)
 
 -- no call failed
 pub follows-whole : (from : World) (to : Ran) (end : Option GuestEnd) (now : World) → now ≡ to.world → end ≡ to.end

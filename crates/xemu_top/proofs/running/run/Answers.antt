@@ -1,7 +1,8 @@
-use Rattle.std.proofs.Common.{◌≡◌, ◌-◌, suc, ◌∙◌, arith, refl, subst, ℕ}
-use Rattle.machine_state.specs.World.{World}
+use Rattle.std.proofs.Common.{◌≡◌, ◌-◌, suc, ◌∙◌, arith, refl, subst, ℕ, Option, Ok}
+use Rattle.machine_state.specs.declared.kinds.GuestEnd.{GuestEnd}
 use Rattle.core_step.specs.Machine.{state_of}
-use Rattle.xemu_top.specs.Following.{world_at}
+use Rattle.xemu_top.specs.Step.{step}
+use Rattle.xemu_top.specs.Following.{Follows, world_at}
 use Rattle.xemu_top.proofs.FollowLemmas.{reaches}
 use Rattle.xemu_top.proofs.RunLemmas.{GoesOn, GoesOn-start, goes_on-step, runs-ends, runs-stopped, runs-budget}
 use Rattle.xemu_top.proofs.running.run.Goals as goal
@@ -19,30 +20,34 @@ loop-machine-init g c = record {
 
 pub loop-machine-preserved : goal.loop-machine-preserved
 loop-machine-preserved g c = record {
-  within = omega (arith, c.in-None.ensures.steps);
-  resident = c.in-None.ensures.resident;
+  within = omega (arith, c.in-Ok-None.ensures.steps);
+  resident = c.in-Ok-None.ensures.resident;
   goes_on = λ w base o e first out_is err_is.
-      let rest : c.args.upto - c.loop-machine.machine.steps ≡ suc (c.args.upto - c.turn.new.machine.steps) = omega (arith, c.in-None.ensures.steps) in
+      let rest : c.args.upto - c.loop-machine.machine.steps ≡ suc (c.args.upto - c.turn.new.machine.steps) = omega (arith, c.in-Ok-None.ensures.steps) in
       let so_far = c.loop-machine.invariant.goes_on w base o e first out_is err_is in
-      let turned = c.in-None.ensures.follows w base so_far.out_now so_far.err_now first so_far.out_told so_far.err_told in
+      let turned = c.in-Ok-None.ensures.follows w base so_far.out_now so_far.err_now first so_far.out_told so_far.err_told in
+      let now = world_at base (state_of c.loop-machine.machine w) so_far.out_now so_far.err_now in
+      let next = world_at base (state_of c.turn.new.machine w) turned.out_now turned.err_now in
+      let follows = subst (λ (x : Option GuestEnd). Follows now (step now) (Ok x) next) c.in-Ok-None.field-0-is turned.meets in
       reaches _ _ base (state_of c.turn.new.machine w) turned.out_now turned.err_now _ turned.out_told turned.err_told
-      (goes_on-step _ _ (world_at base (state_of c.loop-machine.machine w) so_far.out_now so_far.err_now) _ _
-      (rw (← rest) so_far.meets) turned.meets);
-  out_tells = c.in-None.ensures.out_tells ∙ c.loop-machine.invariant.out_tells;
-  err_tells = c.in-None.ensures.err_tells ∙ c.loop-machine.invariant.err_tells;
-  out_kept = c.in-None.ensures.cause.0 ∙ c.loop-machine.invariant.out_kept;
-  err_kept = c.in-None.ensures.cause.1 ∙ c.loop-machine.invariant.err_kept;
+      (goes_on-step _ _ now next _ (rw (← rest) so_far.meets) follows);
+  out_tells = c.in-Ok-None.ensures.out_tells ∙ c.loop-machine.invariant.out_tells;
+  err_tells = c.in-Ok-None.ensures.err_tells ∙ c.loop-machine.invariant.err_tells;
+  out_kept = c.in-Ok-None.ensures.cause.0 ∙ c.loop-machine.invariant.out_kept;
+  err_kept = c.in-Ok-None.ensures.cause.1 ∙ c.loop-machine.invariant.err_kept;
 }
 
-pub returns-in-Some-clause-runs : goal.returns-in-Some-clause-runs
-returns-in-Some-clause-runs g c w base o e first out_is err_is =
-    let rest : c.args.upto - c.loop-machine.machine.steps ≡ suc (c.args.upto - c.turn.new.machine.steps) = omega (arith, c.in-Some.ensures.steps) in
+pub returns-in-Ok-Some-clause-runs : goal.returns-in-Ok-Some-clause-runs
+returns-in-Ok-Some-clause-runs g c w base o e first out_is err_is =
+    let rest : c.args.upto - c.loop-machine.machine.steps ≡ suc (c.args.upto - c.turn.new.machine.steps) = omega (arith, c.in-Ok-Some.ensures.steps) in
     let so_far = c.loop-machine.invariant.goes_on w base o e first out_is err_is in
-    let turned = c.in-Some.ensures.follows w base so_far.out_now so_far.err_now first so_far.out_told so_far.err_told in
+    let turned = c.in-Ok-Some.ensures.follows w base so_far.out_now so_far.err_now first so_far.out_told so_far.err_told in
+    let now = world_at base (state_of c.loop-machine.machine w) so_far.out_now so_far.err_now in
+    let next = world_at base (state_of c.turn.new.machine w) turned.out_now turned.err_now in
+    let follows = subst (λ (x : Option GuestEnd). Follows now (step now) (Ok x) next) c.in-Ok-Some.field-0-is turned.meets in
     rw c.run_end.ensures
     (reaches _ _ base (state_of c.turn.new.machine w) turned.out_now turned.err_now _ turned.out_told turned.err_told
-    (runs-ends _ _ (world_at base (state_of c.loop-machine.machine w) so_far.out_now so_far.err_now) _
-    (c.args.upto - c.turn.new.machine.steps) c.in-Some.end (rw (← rest) so_far.meets) turned.meets))
+    (runs-ends _ _ now next (c.args.upto - c.turn.new.machine.steps) c.in-Ok-Some.end (rw (← rest) so_far.meets) follows))
 
 pub returns-in-Err-clause-runs : goal.returns-in-Err-clause-runs
 returns-in-Err-clause-runs g c w base o e first out_is err_is =
