@@ -1,5 +1,5 @@
 -- The command of the code gives what the written command gives.
-use Rattle.std.proofs.Common.{◌≡◌, ◌∙◌, ◌-◌, sym, ap, subst, arith, refl, ℕ, List, [], true, false, Option, Some, None, IfSome, IsTrue, IsSome}
+use Rattle.std.proofs.Common.{◌≡◌, ◌∙◌, ◌-◌, ap, subst, arith, refl, ℕ, List, [], true, false, Option, Some, None, IfSome, IsSome}
 use Rattle.machine_state.specs.declared.kinds.GuestEnd.{GuestEnd}
 use Rattle.host_edge.specs.declared.outside.HostCall.{HostCall}
 use Rattle.host_edge.specs.declared.outside.HostCall.TheVariants.{Load, Store, SwapOpen, SwapGet, SwapPut, Take, PutOut, PutErr}
@@ -12,10 +12,10 @@ use Rattle.core_step.specs.Machine.{state_of}
 use Rattle.xemu_top.specs.declared.ends.End.{End}
 use Rattle.xemu_top.specs.declared.ends.Ended.{Ended}
 use Rattle.xemu_top.specs.declared.ends.RunEnd.{RunEnd}
-use Rattle.xemu_top.specs.Run.{run, Outside, outside, MayStand}
+use Rattle.xemu_top.specs.Run.{run, Outside, outside}
 use Rattle.xemu_top.specs.Command.{first_world, first_state, image_fits, end_of, command, StandsOnFile, StandsOnImage, words_fit, path_word, no_command, no_image}
-use Rattle.xemu_top.specs.Following.{Reaches, Runs, world_at, is_stopped, run_end, end_from, IsCaused, IsTold}
-use Rattle.xemu_top.specs.Headline.{Gives, Leaves, Meets, MeetsFile, MeetsImage, KeepsInput, IsOutside, failed_call, is_own, state_left, finished, machine_after}
+use Rattle.xemu_top.specs.Following.{Reaches, Runs, world_at, is_stopped, run_end, end_from, IsCaused}
+use Rattle.xemu_top.specs.Headline.{Meets, MeetsFile, MeetsImage, KeepsInput, IsOutside, failed_call, is_own, state_left, finished, machine_after}
 
 -- the first world, taken apart and put together
 first_world-at : (bytes : List ℕ) (on : Outside)

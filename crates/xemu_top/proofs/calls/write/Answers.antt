@@ -1,10 +1,9 @@
-use Rattle.std.proofs.Common.{None, refl, subst, ◌%◌, ◌^◌}
+use Rattle.std.proofs.Common.{subst, ◌%◌, ◌^◌}
 use Rattle.machine_state.specs.World.{World, first_descriptors}
 use Rattle.core_step.specs.Machine.{state_of}
 use Rattle.xemu_top.specs.Call.{goes_on}
 use Rattle.xemu_top.specs.Following.{Follows, Reaches, world_at}
 use Rattle.xemu_top.proofs.CallLemmas.{write_call-is, stream_of-some}
-use Rattle.xemu_top.proofs.FollowLemmas.{reaches, follows-whole}
 use Rattle.xemu_top.proofs.calls.write.Goals as goal
 
 pub returns-in-Some-clause-follows : goal.returns-in-Some-clause-follows

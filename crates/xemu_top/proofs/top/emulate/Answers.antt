@@ -1,4 +1,4 @@
-use Rattle.std.proofs.Common.{◌≡◌, ◌∙◌, sym, refl, map, string_bytes}
+use Rattle.std.proofs.Common.{◌∙◌, sym, refl, map, string_bytes}
 use Rattle.xemu_top.specs.Command.{default_budget, path_word}
 use Rattle.xemu_top.specs.Loading.{IsLoaded}
 use Rattle.xemu_top.proofs.TopLemmas.{meets-too_many, meets-words, meets-file, held_of, files_told, outside_kept}
