@@ -1,14 +1,14 @@
 -- An instruction writes within its accesses alone.
-use Rattle.std.proofs.Common.{◌≡◌, ℕ, ◌+◌, ◌*◌, ◌%◌, ◌^◌, ◌<◌, ◌≤◌, ◌⊎◌, inl, inr, Bool, true, false, cond, List, [], ◌∷◌, Option, Some, None, refl, slice_get, length}
+use Rattle.std.proofs.Common.{◌≡◌, ℕ, ◌+◌, ◌*◌, ◌%◌, ◌^◌, ◌<◌, ◌≤◌, ◌⊎◌, Bool, true, false, cond, List, [], ◌∷◌, Option, Some, None, refl, sym, ap, ◌∙◌, slice_get, length}
 use Rattle.std.specs.List.{All}
-use Rattle.std.proofs.lemmas.List.Elements.{All-head, All-tail}
+use Rattle.std.proofs.lemmas.List.Elements.{All-head, All-tail, All-weaker}
 use Rattle.byteorder.specs.Numbers.{length-bytes_low_first}
 use Rattle.machine_state.specs.declared.kinds.Kind.TheVariants.{Write}
 use Rattle.gpr_flags.specs.declared.kinds.Fault.{Fault}
 use Rattle.gpr_flags.specs.declared.kinds.Fault.TheVariants.{General}
-use Rattle.machine_state.specs.Memory.{bytes_at, written, number_bytes}
+use Rattle.machine_state.specs.Memory.{Memory, bytes_at, number_bytes}
 use Rattle.machine_state.specs.State.{State}
-use Rattle.machine_state.proofs.MemoryLemmas.{length-bytes_at, written_below, written_above}
+use Rattle.machine_state.proofs.MemoryLemmas.{length-bytes_at}
 use Rattle.row_table.specs.declared.kinds.Row.{Row}
 use Rattle.row_table.specs.declared.kinds.Decoded.{Decoded}
 use Rattle.row_table.specs.declared.operations.StringOp.{StringOp}
@@ -17,7 +17,7 @@ use Rattle.row_table.specs.Rows.{rows}
 use Rattle.string_unit.specs.Strings.{reads, writes, string_accesses, string_byte}
 use Rattle.core_step.specs.declared.kinds.Size.{Size}
 use Rattle.core_step.specs.declared.kinds.Operand.{Operand}
-use Rattle.core_step.specs.declared.kinds.Operand.TheVariants.{Absent, Register, HighByte, Memory, Number}
+use Rattle.core_step.specs.declared.kinds.Operand.TheVariants.{Absent, Register, HighByte, Memory as InMemory, Number}
 use Rattle.core_step.specs.declared.kinds.Use.{Use}
 use Rattle.core_step.specs.declared.kinds.Use.TheVariants.{Read as Reads, Write as Writes, Update}
 use Rattle.core_step.specs.declared.kinds.Instruction.{Instruction}
@@ -29,23 +29,22 @@ use Rattle.core_step.specs.declared.kinds.Plan.TheVariants.{Plain, OnStrings, On
 use Rattle.machine_state.specs.declared.kinds.Access.{Access}
 use Rattle.core_step.specs.Size.{bytes_in}
 use Rattle.core_step.specs.Operands.{use_of}
-use Rattle.core_step.specs.Strings.{is_over, source_of, destination_of, strings_access, passed_over, iterated, byte_iterated}
-use Rattle.core_step.specs.Pair.{pair_bytes, pair_write, pair_access, is_misaligned, is_equal, pair_at, pair_stored, byte_exchanged, pair_left}
-use Rattle.core_step.specs.Plan.{plan_of, plan_accesses}
 use Rattle.core_step.specs.Access.{operand_access, kind_of, accesses_of, first_fault}
-use Rattle.core_step.specs.Act.{number_for, byte_after, byte_left, outcome_in, trapped, done, plan_after, unless, performed_as, performed_row, performed}
-use Rattle.core_step.specs.Machine.{accesses, accesses_by, SparesByte, IsFramed}
+use Rattle.core_step.specs.Effect.{Processor, Effect, processor_of, seen_in, put_in, left_by}
+use Rattle.core_step.specs.Plain.{number_for, byte_after, byte_left, outcome_in}
+use Rattle.core_step.specs.Strings.{is_over, source_of, destination_of, strings_access, passed_over, iterated, byte_iterated}
+use Rattle.core_step.specs.Pair.{pair_bytes, pair_write, is_equal, pair_at, pair_stored, byte_exchanged, pair_effect}
+use Rattle.core_step.specs.Plan.{plan_of, plan_accesses, effect_of}
+use Rattle.core_step.specs.Alignment.{is_misaligned}
+use Rattle.core_step.specs.Act.{trapped, carried_out, unless, performed_along, performed_as, performed_row, performed}
+use Rattle.core_step.specs.Machine.{accesses, accesses_by, AgreeOn, SparesByte, IsFramed}
 use Rattle.core_step.proofs.Parts.{All-destination}
+use Rattle.core_step.proofs.Seeing.{agree-seen, seen_memory, written_outside, put_in-spared, put_in-is, HasAt}
+use Rattle.core_step.proofs.Local.{Agrees, plan-agrees}
 
 -- a number has as many bytes as its size says
 length-number_bytes : (size number : ℕ) → length (number_bytes size number) ≡ size
 length-number_bytes size number = length-bytes_low_first 0 size (number % 2 ^ (8 * size))
-
--- bytes that are written change no byte before them or behind them
-written_outside : (byte : ℕ → ℕ) (addr len : ℕ) (bytes : List ℕ) (at : ℕ) → length bytes ≡ len → (at < addr) ⊎ (addr + len ≤ at)
-    → written byte addr bytes at ≡ byte at
-written_outside byte addr len bytes at count (inl below) = written_below byte addr bytes at below
-written_outside byte addr len bytes at count (inr above) = written_above byte addr bytes at (rw count above)
 
 -- an access of kind write that spares a byte lies below it or above it
 spared-write : (addr len at : ℕ) (rest : List Access) → All (SparesByte at) (record { kind = Write; addr = addr; len = len } ∷ rest)
@@ -59,7 +58,7 @@ byte_after-spared operand size None byte at spared = refl
 byte_after-spared Absent size (Some number) byte at spared = refl
 byte_after-spared (Register to) size (Some number) byte at spared = refl
 byte_after-spared (HighByte to) size (Some number) byte at spared = refl
-byte_after-spared (Memory addr) size (Some number) byte at spared =
+byte_after-spared (InMemory addr) size (Some number) byte at spared =
     written_outside byte addr (bytes_in size) (number_bytes (bytes_in size) number) at (length-number_bytes (bytes_in size) number)
     (spared-write addr (bytes_in size) at [] spared)
 byte_after-spared (Number to) size (Some number) byte at spared = refl
@@ -94,13 +93,13 @@ string_byte-spared Lods size source destination gprs byte at spared = refl
 string_byte-spared Scas size source destination gprs byte at spared = refl
 
 -- nor does a step without one
-strings-spared : (over : Bool) (i : StringPlan) (s : State) (at : ℕ)
-    → All (SparesByte at) (cond over [] (string_accesses i.op (bytes_in i.size) (source_of i s.gprs) (destination_of i s.gprs)))
-    → (cond over (passed_over i s) (iterated i s)).memory.byte at ≡ s.memory.byte at
+strings-spared : (over : Bool) (i : StringPlan) (p : Processor) (byte : ℕ → ℕ) (at : ℕ)
+    → All (SparesByte at) (cond over [] (string_accesses i.op (bytes_in i.size) (source_of i p.gprs) (destination_of i p.gprs)))
+    → (cond over (passed_over i p byte) (iterated i p byte)).byte at ≡ byte at
 unfolding byte_iterated
-strings-spared true i s at spared = refl
-strings-spared false i s at spared =
-    string_byte-spared i.op (bytes_in i.size) (source_of i s.gprs) (destination_of i s.gprs) s.gprs s.memory.byte at spared
+strings-spared true i p byte at spared = refl
+strings-spared false i p byte at spared =
+    string_byte-spared i.op (bytes_in i.size) (source_of i p.gprs) (destination_of i p.gprs) p.gprs byte at spared
 
 -- ---- pairs
 -- an exchange changes no byte but those of its access
@@ -110,38 +109,76 @@ pair_byte-spared true i gprs byte at spared =
     written_outside byte i.addr (pair_bytes i) _ at (length-bytes_low_first 0 (pair_bytes i) _) (spared-write i.addr (pair_bytes i) at [] spared)
 pair_byte-spared false i gprs byte at spared = refl
 
--- nor does a fault before it
-pair-spared : (misaligned : Bool) (i : PairPlan) (s : State) (at : ℕ) → All (SparesByte at) (cond misaligned [] (pair_write i ∷ []))
-    → (cond misaligned (trapped General s) (done (pair_left i s))).state.memory.byte at ≡ s.memory.byte at
+pair-spared : (i : PairPlan) (p : Processor) (byte : ℕ → ℕ) (at : ℕ) → All (SparesByte at) (pair_write i ∷ [])
+    → (pair_effect i p byte).byte at ≡ byte at
 unfolding byte_exchanged
-pair-spared true i s at spared = refl
-pair-spared false i s at spared = pair_byte-spared (is_equal i.half (pair_at i s.memory.byte) s.gprs) i s.gprs s.memory.byte at spared
+pair-spared i p byte at spared = pair_byte-spared (is_equal i.half (pair_at i byte) p.gprs) i p.gprs byte at spared
+
+-- ---- any kind
+-- what an effect has outside of the write accesses is what stood there
+plan-spared : (plan : Plan) (s : State) (at : ℕ) → All (SparesByte at) (plan_accesses plan s)
+    → (effect_of plan (processor_of s) s.memory.byte).byte at ≡ s.memory.byte at
+unfolding strings_access
+plan-spared (Plain i) s at spared = byte_left-spared i (outcome_in i (processor_of s) s.memory.byte) s.memory.byte at spared
+plan-spared (OnStrings i) s at spared = strings-spared (is_over i s.gprs) i (processor_of s) s.memory.byte at spared
+plan-spared (OnPair i) s at spared = pair-spared i (processor_of s) s.memory.byte at spared
+
+-- so an effect by what is seen of memory, put to the write accesses, is the one by all of memory
+pub carried-is : (plan : Plan) (s : State)
+    → carried_out (plan_accesses plan s) plan s ≡ left_by (effect_of plan (processor_of s) s.memory.byte) s.memory
+carried-is plan s = λ k. record {
+  acted = sym agrees.acted k;
+  state = record {
+    gprs = (sym agrees.processor k).gprs;
+    flags = (sym agrees.processor k).flags;
+    rip = (sym agrees.processor k).rip;
+    extended = (sym agrees.processor k).extended;
+    fs = (sym agrees.processor k).fs;
+    gs = (sym agrees.processor k).gs;
+    steps = (sym agrees.processor k).steps;
+    memory = record s.memory { byte = λ at. byte at k };
+  };
+}
+  where
+    xs : List Access
+    xs = plan_accesses plan s
+
+    whole : Effect
+    whole = effect_of plan (processor_of s) s.memory.byte
+
+    part : Effect
+    part = effect_of plan (processor_of s) (seen_in xs s.memory.byte)
+
+    agrees : Agrees s.memory.byte (seen_in xs s.memory.byte) whole part
+    agrees = plan-agrees plan s (seen_memory xs s.memory) (agree-seen xs s.memory)
+
+    byte : (at : ℕ) → put_in xs part.byte s.memory.byte at ≡ whole.byte at
+    byte at =
+        put_in-is xs part.byte s.memory.byte at (whole.byte at)
+        (All-weaker (AgreeOn s.memory (seen_memory xs s.memory)) (HasAt part.byte at (whole.byte at))
+        (λ access agree is low high. sym (agrees.byte_is at (agree at low high).1)) xs (agree-seen xs s.memory))
+        (λ spared. sym (plan-spared plan s at spared))
 
 -- ---- the whole
--- where no access is refused
-plan-spared : (plan : Plan) (s : State) (at : ℕ) → All (SparesByte at) (plan_accesses plan s.gprs)
-    → (plan_after plan s).state.memory.byte at ≡ s.memory.byte at
-unfolding strings_access pair_access
-plan-spared (Plain i) s at spared = byte_left-spared i (outcome_in i s) s.memory.byte at spared
-plan-spared (OnStrings i) s at spared = strings-spared (is_over i s.gprs) i s at spared
-plan-spared (OnPair i) s at spared = pair-spared (is_misaligned i) i s at spared
+unless-spared : (fault : Option Fault) (xs : List Access) (plan : Plan) (s : State) (at : ℕ) → All (SparesByte at) xs
+    → (unless fault xs plan s).state.memory.byte at ≡ s.memory.byte at
+unless-spared (Some fault) xs plan s at spared = refl
+unless-spared None xs plan s at spared = put_in-spared xs (effect_of plan (processor_of s) (seen_in xs s.memory.byte)).byte s.memory.byte at spared
 
--- nor does a fault change any
-unless-spared : (fault : Option Fault) (plan : Plan) (s : State) (at : ℕ) → All (SparesByte at) (plan_accesses plan s.gprs)
-    → (unless fault plan s).state.memory.byte at ≡ s.memory.byte at
-unless-spared (Some fault) plan s at spared = refl
-unless-spared None plan s at spared = plan-spared plan s at spared
-
--- the instruction of a row
-framed_as : (plan : Plan) (s : State) (at : ℕ) → All (SparesByte at) (plan_accesses plan s.gprs)
+framed_as : (plan : Plan) (s : State) (at : ℕ) → All (SparesByte at) (plan_accesses plan s)
     → (performed_as plan s).state.memory.byte at ≡ s.memory.byte at
 unfolding performed_as
-framed_as plan s at spared = unless-spared (first_fault s.memory.perms (plan_accesses plan s.gprs)) plan s at spared
+framed_as plan s at spared = unless-spared (first_fault s.memory.perms (plan_accesses plan s)) (plan_accesses plan s) plan s at spared
 
--- the same by the row, where there is one
+by_alignment-spared : (misaligned : Bool) (plan : Plan) (s : State) (at : ℕ) → All (SparesByte at) (cond misaligned [] (plan_accesses plan s))
+    → (cond misaligned (trapped General s) (performed_as plan s)).state.memory.byte at ≡ s.memory.byte at
+by_alignment-spared true plan s at spared = refl
+by_alignment-spared false plan s at spared = framed_as plan s at spared
+
+-- by the row, where there is one
 framed_row : (found : Option Row) (d : Decoded) (len : ℕ) (s : State) (at : ℕ) → All (SparesByte at) (accesses_by found d len s)
     → (performed_row found d len s).state.memory.byte at ≡ s.memory.byte at
-framed_row (Some row) d len s at spared = framed_as (plan_of row d len s) s at spared
+framed_row (Some row) d len s at spared = by_alignment-spared (is_misaligned row d len s) (plan_of row d len s) s at spared
 framed_row None d len s at spared = refl
 
 -- an instruction writes within its accesses alone

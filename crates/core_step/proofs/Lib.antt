@@ -1,7 +1,8 @@
 pub mod Walks
-pub mod Steps
 pub mod Parts
+pub mod Seeing
 pub mod Local
 pub mod Frame
+pub mod Steps
 pub mod PageCounts
 pub mod FetchLemmas

@@ -1,12 +1,12 @@
 -- An instruction depends on its accesses alone.
-use Rattle.std.proofs.Common.{◌≡◌, ℕ, ◌+◌, ◌-◌, ◌*◌, ◌/◌, ◌<◌, ◌≤◌, Bool, true, false, List, [], ◌∷◌, Option, Some, None, cond, zero, suc, refl, ap, ◌∙◌, arith, slice_get, slice_index, nat_lt, nat_le, ◌&&◌, length}
+use Rattle.std.proofs.Common.{◌≡◌, ℕ, ◌+◌, ◌*◌, ◌/◌, ◌<◌, ◌≤◌, Bool, true, false, List, [], ◌∷◌, Option, Some, None, cond, zero, suc, refl, sym, subst, ap, ◌∙◌, arith, slice_get, slice_index}
 use Rattle.std.specs.List.{All}
 use Rattle.std.proofs.lemmas.List.Elements.{All-head, All-tail}
 use Rattle.byteorder.specs.Endian.{little_number}
 use Rattle.machine_state.specs.declared.kinds.Kind.{Kind}
 use Rattle.machine_state.specs.declared.kinds.Kind.TheVariants.{Read}
 use Rattle.gpr_flags.specs.declared.kinds.Fault.{Fault}
-use Rattle.gpr_flags.specs.declared.kinds.Fault.TheVariants.{General}
+use Rattle.gpr_flags.specs.declared.kinds.Fault.TheVariants.{Undefined, General}
 use Rattle.gpr_flags.specs.declared.kinds.Flags.{Flags}
 use Rattle.machine_state.specs.declared.kinds.Miss.{Miss}
 use Rattle.machine_state.specs.declared.kinds.Miss.TheVariants.{NonCanonical}
@@ -38,14 +38,18 @@ use Rattle.core_step.specs.declared.kinds.Plan.TheVariants.{Plain, OnStrings, On
 use Rattle.machine_state.specs.declared.kinds.Access.{Access}
 use Rattle.core_step.specs.Size.{bytes_in}
 use Rattle.core_step.specs.Operands.{use_of, instruction_of, instruction_as, destination_in, source_in, third_in}
-use Rattle.core_step.specs.Strings.{strings_of, count_in, is_over, source_of, destination_of, strings_access, with_count, is_continued, gprs_iterated, flags_iterated, byte_iterated, iterated, passed_over}
-use Rattle.core_step.specs.Pair.{pair_of, pair_write, pair_access, is_misaligned, is_equal, pair_at, pair_stored, byte_exchanged, exchanged, pair_left}
-use Rattle.core_step.specs.Plan.{next_of, core_plan, plan_by, plan_of, plan_accesses}
 use Rattle.core_step.specs.Access.{operand_access, kind_of, accesses_of, first_fault, fault_or}
-use Rattle.core_step.specs.Act.{value_of, old_value, byte_after, byte_left, destination_number, outcome_in, trapped, completed, done, plan_after, unless, performed_as, performed_row, performed, register_value}
+use Rattle.core_step.specs.Effect.{Processor, Effect, processor_of, seen_in, after_effect}
 use Rattle.core_step.specs.Result.{outcome_of}
+use Rattle.core_step.specs.Plain.{register_value, value_of, old_value, byte_after, byte_left, destination_number, effect_by, outcome_in, plain_effect}
+use Rattle.core_step.specs.Strings.{strings_of, count_in, is_over, source_of, destination_of, strings_access, with_count, is_continued, gprs_iterated, flags_iterated, byte_iterated, iterated, passed_over, strings_effect}
+use Rattle.core_step.specs.Pair.{pair_of, pair_write, is_equal, pair_at, pair_stored, byte_exchanged, exchanged, pair_effect}
+use Rattle.core_step.specs.Plan.{next_of, core_plan, plan_by, plan_of, plan_accesses, effect_of}
+use Rattle.core_step.specs.Alignment.{is_misaligned}
+use Rattle.core_step.specs.Act.{trapped, carried_out, unless, performed_along, performed_as, performed_row, performed}
 use Rattle.core_step.specs.Machine.{accesses, accesses_by, AgreeOn, IsSame, IsLocal}
 use Rattle.core_step.proofs.Parts.{All-source, All-destination}
+use Rattle.core_step.proofs.Seeing.{written_same, seen_same, put_in-same}
 
 -- ---- the fault
 -- why a byte can't be had depends on its page's permissions alone
@@ -112,12 +116,6 @@ old_value_same Writes operand size gprs memory other agree = refl
 old_value_same Update operand size gprs memory other agree = value_of_same _ operand size gprs memory other agree
 
 -- ---- the bytes
--- a write keeps each byte the same that was the same
-written_same : (byte other : ℕ → ℕ) (addr : ℕ) (bytes : List ℕ) (at : ℕ) → byte at ≡ other at
-    → written byte addr bytes at ≡ written other addr bytes at
-written_same byte other addr bytes at same =
-    ap (λ (old : ℕ). cond (nat_le addr at && nat_lt at (addr + length bytes)) (slice_index bytes (at - addr)) old) same
-
 -- a number that goes to an operand keeps each byte the same that was the same
 byte_after_same : (operand : Operand) (size : Size) (number : Option ℕ) (byte other : ℕ → ℕ) (at : ℕ) → byte at ≡ other at
     → byte_after operand size number byte at ≡ byte_after operand size number other at
@@ -134,40 +132,33 @@ byte_left_same : (i : Instruction) (o : Outcome) (byte other : ℕ → ℕ) (at 
 unfolding byte_left
 byte_left_same i o byte other at same = byte_after_same i.destination i.size (destination_number i o) byte other at same
 
--- ---- the instruction
--- a state with another memory
-abbrev with_memory : State → Memory → State
-with_memory s other = record s { memory = other }
+-- ---- effects by the bytes of two memories
+-- an effect acts the same and leaves the same processor; a byte that was the same is the same afterwards
+pub record Agrees (byte other : ℕ → ℕ) (e f : Effect) : Type 0 where
+  pub acted : e.acted ≡ f.acted
+  pub processor : e.processor ≡ f.processor
+  pub byte_is : (at : ℕ) → byte at ≡ other at → e.byte at ≡ f.byte at
 
--- two memories agree along the accesses of an instruction
-abbrev AgreeFor : Instruction → State → Memory → Type 0
-AgreeFor i s other = All (AgreeOn s.memory other) (accesses_of i)
-
+-- ---- plain instructions
 -- where memories agree along the accesses of an instruction, the same comes of it
-outcome_same : (i : Instruction) (s : State) (other : Memory) → AgreeFor i s other → outcome_in i s ≡ outcome_in i (with_memory s other)
-outcome_same i s other agree =
+outcome_same : (i : Instruction) (p : Processor) (memory other : Memory) → All (AgreeOn memory other) (accesses_of i)
+    → outcome_in i p memory.byte ≡ outcome_in i p other.byte
+outcome_same i p memory other agree =
     ap (λ (a : ℕ).
-    outcome_of i a (value_of i.source i.source_size s.gprs s.memory.byte) (register_value i.third i.third_size s.gprs) s.flags s.steps)
-    (old_value_same (use_of i.op) i.destination i.size s.gprs s.memory other (All-destination (AgreeOn s.memory other) i agree))
+    outcome_of i a (value_of i.source i.source_size p.gprs memory.byte) (register_value i.third i.third_size p.gprs) p.flags p.steps)
+    (old_value_same (use_of i.op) i.destination i.size p.gprs memory other (All-destination (AgreeOn memory other) i agree))
     ∙ ap (λ (b : ℕ).
-    outcome_of i (old_value (use_of i.op) i.destination i.size s.gprs other.byte) b (register_value i.third i.third_size s.gprs)
-    s.flags s.steps)
-    (value_of_same Read i.source i.source_size s.gprs s.memory other (All-source (AgreeOn s.memory other) i agree))
+    outcome_of i (old_value (use_of i.op) i.destination i.size p.gprs other.byte) b (register_value i.third i.third_size p.gprs)
+    p.flags p.steps)
+    (value_of_same Read i.source i.source_size p.gprs memory other (All-source (AgreeOn memory other) i agree))
 
--- an outcome leaves the same state but for memory
-completed_same : (i : Instruction) (o : Outcome) (s : State) (other : Memory)
-    → IsSame s.memory other (completed i o s) (completed i o (with_memory s other))
-completed_same i o s other = record {
-  acted = refl;
-  state = refl;
-  perms_stay = (refl, refl);
-  byte_is = λ at same. byte_left_same i o s.memory.byte other.byte at same;
-}
-
--- where memories agree along the accesses of an instruction, it leaves the same
-plain_same : (i : Instruction) (s : State) (other : Memory) → AgreeFor i s other
-    → IsSame s.memory other (plan_after (Plain i) s) (plan_after (Plain i) (with_memory s other))
-plain_same i s other agree = rw (← outcome_same i s other agree) (completed_same i (outcome_in i s) s other)
+plain-agrees : (i : Instruction) (p : Processor) (memory other : Memory) → All (AgreeOn memory other) (accesses_of i)
+    → Agrees memory.byte other.byte (plain_effect i p memory.byte) (plain_effect i p other.byte)
+plain-agrees i p memory other agree =
+    let o : Outcome = outcome_in i p memory.byte in
+    subst (λ (x : Outcome). Agrees memory.byte other.byte (effect_by i o p memory.byte) (effect_by i x p other.byte))
+    (outcome_same i p memory other agree)
+    (record { acted = refl; processor = refl; byte_is = λ at same. byte_left_same i o memory.byte other.byte at same })
 
 -- ---- strings
 -- where memories agree on an access, so does its number
@@ -219,39 +210,32 @@ string_byte_same Lods size source destination gprs memory other agree at same = 
 string_byte_same Scas size source destination gprs memory other agree at same = same
 
 -- the accesses of an iteration
-abbrev iteration : StringPlan → State → List Access
-iteration i s = string_accesses i.op (bytes_in i.size) (source_of i s.gprs) (destination_of i s.gprs)
+abbrev iteration : StringPlan → Processor → List Access
+iteration i p = string_accesses i.op (bytes_in i.size) (source_of i p.gprs) (destination_of i p.gprs)
 
--- an iteration leaves the same
-iterated_same : (i : StringPlan) (s : State) (other : Memory) → gprs_iterated i s ≡ gprs_iterated i (with_memory s other)
-    → flags_iterated i s ≡ flags_iterated i (with_memory s other)
-    → ((at : ℕ) → s.memory.byte at ≡ other.byte at → byte_iterated i s at ≡ byte_iterated i (with_memory s other) at)
-    → IsSame s.memory other (done (iterated i s)) (done (iterated i (with_memory s other)))
-iterated_same i s other gprs flags byte = record {
-  acted = refl;
-  state = λ k. record s {
-    gprs = gprs k;
-    flags = flags k;
-    rip = cond (is_continued i (count_in i s.gprs) (flags k)) s.rip i.next;
-    steps = s.steps + 1;
-    memory = record other { byte = byte_iterated i (with_memory s other) };
-  };
-  perms_stay = (refl, refl);
-  byte_is = byte;
-}
-
--- and so does a step without one
-strings_same : (over : Bool) (i : StringPlan) (s : State) (other : Memory) → All (AgreeOn s.memory other) (cond over [] (iteration i s))
-    → IsSame s.memory other (done (cond over (passed_over i s) (iterated i s)))
-    (done (cond over (passed_over i (with_memory s other)) (iterated i (with_memory s other))))
+iterated-agrees : (i : StringPlan) (p : Processor) (memory other : Memory) → All (AgreeOn memory other) (iteration i p)
+    → Agrees memory.byte other.byte (iterated i p memory.byte) (iterated i p other.byte)
 unfolding gprs_iterated flags_iterated byte_iterated
-strings_same true i s other agree = record { acted = refl; state = refl; perms_stay = (refl, refl); byte_is = λ at same. same }
-strings_same false i s other agree =
-    iterated_same i s other
-    (ap (with_count i (count_in i s.gprs))
-    (string_gprs_same i.op (bytes_in i.size) i.wrap32 s.flags.df (source_of i s.gprs) (destination_of i s.gprs) s.gprs s.memory other agree))
-    (string_flags_same i.op (bytes_in i.size) (source_of i s.gprs) (destination_of i s.gprs) s.gprs s.flags s.memory other agree)
-    (string_byte_same i.op (bytes_in i.size) (source_of i s.gprs) (destination_of i s.gprs) s.gprs s.memory other agree)
+iterated-agrees i p memory other agree = record {
+  acted = refl;
+  processor = λ k. record p { gprs = gprs k; flags = flags k; rip = cond (is_continued i (count_in i p.gprs) (flags k)) p.rip i.next; steps = p.steps + 1 };
+  byte_is = string_byte_same i.op (bytes_in i.size) (source_of i p.gprs) (destination_of i p.gprs) p.gprs memory other agree;
+}
+  where
+    gprs : gprs_iterated i p memory.byte ≡ gprs_iterated i p other.byte
+    gprs =
+        ap (with_count i (count_in i p.gprs))
+        (string_gprs_same i.op (bytes_in i.size) i.wrap32 p.flags.df (source_of i p.gprs) (destination_of i p.gprs) p.gprs memory other agree)
+
+    flags : flags_iterated i p memory.byte ≡ flags_iterated i p other.byte
+    flags = string_flags_same i.op (bytes_in i.size) (source_of i p.gprs) (destination_of i p.gprs) p.gprs p.flags memory other agree
+
+-- and a step without one
+strings-agrees : (over : Bool) (i : StringPlan) (p : Processor) (memory other : Memory) → All (AgreeOn memory other) (cond over [] (iteration i p))
+    → Agrees memory.byte other.byte (cond over (passed_over i p memory.byte) (iterated i p memory.byte))
+    (cond over (passed_over i p other.byte) (iterated i p other.byte))
+strings-agrees true i p memory other agree = record { acted = refl; processor = refl; byte_is = λ at same. same }
+strings-agrees false i p memory other agree = iterated-agrees i p memory other agree
 
 -- ---- pairs
 -- a byte after an exchange
@@ -260,54 +244,63 @@ pair_byte_same : (equal : Bool) (i : PairPlan) (gprs : List ℕ) (byte other : �
 pair_byte_same true i gprs byte other at same = written_same byte other i.addr _ at same
 pair_byte_same false i gprs byte other at same = same
 
--- an exchange leaves the same
-exchanged_same : (i : PairPlan) (found : ℕ) (s : State) (other : Memory)
-    → IsSame s.memory other (done (exchanged i found s)) (done (exchanged i found (with_memory s other)))
+exchanged-agrees : (i : PairPlan) (found : ℕ) (p : Processor) (byte other : ℕ → ℕ) → Agrees byte other (exchanged i found p byte) (exchanged i found p other)
 unfolding byte_exchanged
-exchanged_same i found s other = record {
+exchanged-agrees i found p byte other = record {
   acted = refl;
-  state = refl;
-  perms_stay = (refl, refl);
-  byte_is = λ at same. pair_byte_same (is_equal i.half found s.gprs) i s.gprs s.memory.byte other.byte at same;
+  processor = refl;
+  byte_is = λ at same. pair_byte_same (is_equal i.half found p.gprs) i p.gprs byte other at same;
 }
 
--- and so does a fault before it
-pair_same : (misaligned : Bool) (i : PairPlan) (s : State) (other : Memory)
-    → All (AgreeOn s.memory other) (cond misaligned [] (pair_write i ∷ []))
-    → IsSame s.memory other (cond misaligned (trapped General s) (done (pair_left i s)))
-    (cond misaligned (trapped General (with_memory s other)) (done (pair_left i (with_memory s other))))
+pair-agrees : (i : PairPlan) (p : Processor) (memory other : Memory) → All (AgreeOn memory other) (pair_write i ∷ [])
+    → Agrees memory.byte other.byte (pair_effect i p memory.byte) (pair_effect i p other.byte)
 unfolding pair_at
-pair_same true i s other agree = record { acted = refl; state = refl; perms_stay = (refl, refl); byte_is = λ at same. same }
-pair_same false i s other agree = rw (← number_same (pair_write i) [] s.memory other agree) (exchanged_same i (pair_at i s.memory.byte) s other)
+pair-agrees i p memory other agree =
+    rw (← number_same (pair_write i) [] memory other agree) (exchanged-agrees i (pair_at i memory.byte) p memory.byte other.byte)
 
--- ---- the whole
--- two memories agree along the accesses of a plan
-abbrev AgreeAlong : Plan → State → Memory → Type 0
-AgreeAlong plan s other = All (AgreeOn s.memory other) (plan_accesses plan s.gprs)
+-- ---- any kind
+-- where memories agree along the accesses of a plan, so do its effects
+pub plan-agrees : (plan : Plan) (s : State) (other : Memory) → All (AgreeOn s.memory other) (plan_accesses plan s)
+    → Agrees s.memory.byte other.byte (effect_of plan (processor_of s) s.memory.byte) (effect_of plan (processor_of s) other.byte)
+unfolding strings_access
+plan-agrees (Plain i) s other agree = plain-agrees i (processor_of s) s.memory other agree
+plan-agrees (OnStrings i) s other agree = strings-agrees (is_over i s.gprs) i (processor_of s) s.memory other agree
+plan-agrees (OnPair i) s other agree = pair-agrees i (processor_of s) s.memory other agree
 
--- where no access is refused
-plan_same : (plan : Plan) (s : State) (other : Memory) → AgreeAlong plan s other
-    → IsSame s.memory other (plan_after plan s) (plan_after plan (with_memory s other))
-unfolding strings_access pair_access
-plan_same (Plain i) s other agree = plain_same i s other agree
-plan_same (OnStrings i) s other agree = strings_same (is_over i s.gprs) i s other agree
-plan_same (OnPair i) s other agree = pair_same (is_misaligned i) i s other agree
+-- a state with another memory
+abbrev with_memory : State → Memory → State
+with_memory s other = record s { memory = other }
 
--- and where one may be
-unless_same : (fault : Option Fault) (plan : Plan) (s : State) (other : Memory) → AgreeAlong plan s other
-    → IsSame s.memory other (unless fault plan s) (unless fault plan (with_memory s other))
-unless_same (Some fault) plan s other agree = record { acted = refl; state = refl; perms_stay = (refl, refl); byte_is = λ at same. same }
-unless_same None plan s other agree = plan_same plan s other agree
+-- an effect is by what is seen, which is the same
+carried-same : (xs : List Access) (plan : Plan) (s : State) (other : Memory) → All (AgreeOn s.memory other) xs
+    → IsSame s.memory other (carried_out xs plan s) (carried_out xs plan (with_memory s other))
+carried-same xs plan s other agree =
+    let e : Effect = effect_of plan (processor_of s) (seen_in xs s.memory.byte) in
+    subst (λ (seen : ℕ → ℕ). IsSame s.memory other (after_effect xs e s.memory) (after_effect xs (effect_of plan (processor_of s) seen) other))
+    (seen_same xs s.memory other agree)
+    (record {
+      acted = refl;
+      state = refl;
+      perms_stay = (refl, refl);
+      byte_is = λ at same. put_in-same xs e.byte s.memory.byte other.byte at same;
+    })
 
--- an instruction performed over memories that agree along its accesses
-performed_as_same : (plan : Plan) (s : State) (other : Memory) → AgreeAlong plan s other
-    → IsSame s.memory other (performed_as plan s) (performed_as plan (with_memory s other))
-unfolding performed_as
-performed_as_same plan s other agree =
-    rw (← first_fault_same (plan_accesses plan s.gprs) s.memory other agree)
-    (unless_same (first_fault s.memory.perms (plan_accesses plan s.gprs)) plan s other agree)
+-- a fault changes nothing
+trapped-same : (fault : Fault) (s : State) (other : Memory) → IsSame s.memory other (trapped fault s) (trapped fault (with_memory s other))
+trapped-same fault s other = record { acted = refl; state = refl; perms_stay = (refl, refl); byte_is = λ at same. same }
 
--- the operands of an instruction don't depend on memory
+unless-same : (fault : Option Fault) (xs : List Access) (plan : Plan) (s : State) (other : Memory) → All (AgreeOn s.memory other) xs
+    → IsSame s.memory other (unless fault xs plan s) (unless fault xs plan (with_memory s other))
+unless-same (Some fault) xs plan s other agree = trapped-same fault s other
+unless-same None xs plan s other agree = carried-same xs plan s other agree
+
+along-same : (xs : List Access) (plan : Plan) (s : State) (other : Memory) → All (AgreeOn s.memory other) xs
+    → IsSame s.memory other (performed_along xs plan s) (performed_along xs plan (with_memory s other))
+along-same xs plan s other agree =
+    subst (λ (fault : Option Fault). IsSame s.memory other (performed_along xs plan s) (unless fault xs plan (with_memory s other)))
+    (first_fault_same xs s.memory other agree) (unless-same (first_fault s.memory.perms xs) xs plan s other agree)
+
+-- ---- the plan of an instruction doesn't depend on memory
 instruction_same : (row : Row) (d : Decoded) (len : ℕ) (s : State) (other : Memory)
     → instruction_of row d len (with_memory s other) ≡ instruction_of row d len s
 unfolding instruction_of instruction_as destination_in source_in third_in
@@ -340,13 +333,40 @@ plan_of_same : (row : Row) (d : Decoded) (len : ℕ) (s : State) (other : Memory
 unfolding plan_of
 plan_of_same row d len s other = plan_by_same row.op row d len s other
 
--- the same by the row, where there is one
+-- nor do its access list and its alignment
+accesses-same : (plan : Plan) (s : State) (other : Memory) → plan_accesses plan (with_memory s other) ≡ plan_accesses plan s
+accesses-same (Plain i) s other = refl
+accesses-same (OnStrings i) s other = refl
+accesses-same (OnPair i) s other = refl
+
+misaligned-same : (row : Row) (d : Decoded) (len : ℕ) (s : State) (other : Memory)
+    → is_misaligned row d len (with_memory s other) ≡ is_misaligned row d len s
+unfolding is_misaligned
+misaligned-same row d len s other = refl
+
+-- ---- the whole
+performed_as-same : (plan : Plan) (s : State) (other : Memory) → All (AgreeOn s.memory other) (plan_accesses plan s)
+    → IsSame s.memory other (performed_as plan s) (performed_as plan (with_memory s other))
+unfolding performed_as
+performed_as-same plan s other agree =
+    subst (λ (xs : List Access). IsSame s.memory other (performed_along (plan_accesses plan s) plan s) (performed_along xs plan (with_memory s other)))
+    (sym (accesses-same plan s other)) (along-same (plan_accesses plan s) plan s other agree)
+
+by_alignment-same : (misaligned : Bool) (plan : Plan) (s : State) (other : Memory)
+    → All (AgreeOn s.memory other) (cond misaligned [] (plan_accesses plan s))
+    → IsSame s.memory other (cond misaligned (trapped General s) (performed_as plan s))
+    (cond misaligned (trapped General (with_memory s other)) (performed_as plan (with_memory s other)))
+by_alignment-same true plan s other agree = trapped-same General s other
+by_alignment-same false plan s other agree = performed_as-same plan s other agree
+
+-- by the row, where there is one
 local_row : (found : Option Row) (d : Decoded) (len : ℕ) (s : State) (other : Memory)
     → All (AgreeOn s.memory other) (accesses_by found d len s)
     → IsSame s.memory other (performed_row found d len s) (performed_row found d len (with_memory s other))
 local_row (Some row) d len s other agree =
-    rw (plan_of_same row d len s other) (performed_as_same (plan_of row d len s) s other agree)
-local_row None d len s other agree = record { acted = refl; state = refl; perms_stay = (refl, refl); byte_is = λ at same. same }
+    rw (misaligned-same row d len s other, plan_of_same row d len s other)
+    (by_alignment-same (is_misaligned row d len s) (plan_of row d len s) s other agree)
+local_row None d len s other agree = trapped-same Undefined s other
 
 -- an instruction over memories that agree along its accesses gives the same
 pub local : (d : Decoded) (len : ℕ) (s : State) → IsLocal d len s

@@ -24,8 +24,9 @@ use Rattle.core_step.specs.Size.{bytes_in}
 use Rattle.core_step.specs.Operands.{use_of}
 use Rattle.core_step.specs.Access.{operand_access, kind_of, accesses_of}
 use Rattle.core_step.specs.Strings.{is_over, source_of, destination_of, strings_access}
-use Rattle.core_step.specs.Pair.{pair_write, pair_access, is_misaligned}
+use Rattle.core_step.specs.Pair.{pair_write}
 use Rattle.core_step.specs.Plan.{plan_of, plan_accesses}
+use Rattle.core_step.specs.Alignment.{is_misaligned}
 use Rattle.core_step.specs.Pages.{LiesOn, TouchesAtMost, fetch_accesses}
 use Rattle.core_step.specs.Machine.{accesses, accesses_by}
 
@@ -116,20 +117,23 @@ strings-few : (over : Bool) (op : StringOp) (size source destination : ℕ) → 
 strings-few true op size source destination short = few-none 2
 strings-few false op size source destination short = iteration-few op size source destination short
 
-pair-few : (misaligned : Bool) (i : PairPlan) → AreFew 2 (cond misaligned [] (pair_write i ∷ []))
-pair-few true i = few-none 2
-pair-few false i = few-more 1 2 _ (omega arith) (few-one _ (omega (arith, bytes-short i.half)))
+pair-few : (i : PairPlan) → AreFew 2 (pair_write i ∷ [])
+pair-few i = few-more 1 2 _ (omega arith) (few-one _ (omega (arith, bytes-short i.half)))
 
 -- ---- the whole
-plan-few : (plan : Plan) (gprs : List ℕ) → AreFew 2 (plan_accesses plan gprs)
-unfolding strings_access pair_access
-plan-few (Plain i) gprs = plain-few i
-plan-few (OnStrings i) gprs =
-    strings-few (is_over i gprs) i.op (bytes_in i.size) (source_of i gprs) (destination_of i gprs) (bytes-short i.size)
-plan-few (OnPair i) gprs = pair-few (is_misaligned i) i
+plan-few : (plan : Plan) (s : State) → AreFew 2 (plan_accesses plan s)
+unfolding strings_access
+plan-few (Plain i) s = plain-few i
+plan-few (OnStrings i) s =
+    strings-few (is_over i s.gprs) i.op (bytes_in i.size) (source_of i s.gprs) (destination_of i s.gprs) (bytes-short i.size)
+plan-few (OnPair i) s = pair-few i
+
+by_alignment-few : (misaligned : Bool) (plan : Plan) (s : State) → AreFew 2 (cond misaligned [] (plan_accesses plan s))
+by_alignment-few true plan s = few-none 2
+by_alignment-few false plan s = plan-few plan s
 
 row-few : (found : Option Row) (d : Decoded) (len : ℕ) (s : State) → AreFew 2 (accesses_by found d len s)
-row-few (Some row) d len s = plan-few (plan_of row d len s) s.gprs
+row-few (Some row) d len s = by_alignment-few (is_misaligned row d len s) (plan_of row d len s) s
 row-few None d len s = few-none 2
 
 -- the accesses of an instruction touch at most four pages

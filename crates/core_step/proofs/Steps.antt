@@ -1,12 +1,17 @@
 -- From the walk and the outcome of an instruction to what is performed.
-use Rattle.std.proofs.Common.{◌≡◌, ◌↔◌, ℕ, List, [], ◌∷◌, Option, Some, None, refl, sym, ap, ◌∙◌, slice_get}
+use Rattle.std.proofs.Common.{◌≡◌, ◌↔◌, ℕ, Bool, true, false, cond, List, [], ◌∷◌, Option, Some, None, refl, sym, ap, ◌∙◌, slice_get}
 use Rattle.machine_state.specs.declared.kinds.Kind.{Kind}
 use Rattle.machine_state.specs.declared.kinds.Miss.{Miss}
 use Rattle.machine_state.specs.declared.kinds.Miss.TheVariants.{Unmapped, Denied, NonCanonical, Away}
 use Rattle.gpr_flags.specs.declared.kinds.Fault.{Fault}
-use Rattle.machine_state.specs.Memory.{Swap, Permissions, first_miss, or_else}
+use Rattle.gpr_flags.specs.declared.kinds.Fault.TheVariants.{General}
+use Rattle.machine_state.specs.Memory.{Memory, Swap, Permissions, first_miss, or_else}
 use Rattle.machine_state.specs.State.{State}
+use Rattle.machine_state.specs.declared.kinds.Access.{Access}
+use Rattle.machine_state.specs.declared.kinds.Stop.{Stop}
 use Rattle.guest_pages.specs.Table.{Table, perms_in, first_away}
+use Rattle.guest_pages.specs.Pages.{PagesValue, byte_of, memory_of}
+use Rattle.guest_pages.specs.Changes.{KeepsTable}
 use Rattle.guest_pages.specs.Walk.{stop_or, walk}
 use Rattle.guest_pages.proofs.Walks.{first_away-away}
 use Rattle.row_table.specs.declared.kinds.Row.{Row}
@@ -15,15 +20,19 @@ use Rattle.row_table.specs.Rows.{rows}
 use Rattle.core_step.specs.declared.acted.Acted.{Acted}
 use Rattle.core_step.specs.declared.acted.Acted.TheVariants.{Done, Call, Trap, Need}
 use Rattle.core_step.specs.declared.machine.Machine.{Machine}
-use Rattle.core_step.specs.declared.kinds.Instruction.{Instruction}
+use Rattle.gpr_flags.specs.declared.kinds.Flags.{Flags}
 use Rattle.core_step.specs.declared.kinds.Outcome.{Outcome}
+use Rattle.core_step.specs.declared.kinds.StringPlan.{StringPlan}
 use Rattle.core_step.specs.declared.kinds.Plan.{Plan}
-use Rattle.machine_state.specs.declared.kinds.Access.{Access}
-use Rattle.machine_state.specs.declared.kinds.Stop.{Stop}
-use Rattle.core_step.specs.Plan.{plan_of, plan_accesses}
+use Rattle.core_step.specs.Fits.{ActedFits}
 use Rattle.core_step.specs.Access.{access_fault, fault_or, first_fault, acted_by_miss}
-use Rattle.core_step.specs.Act.{After, trapped, gprs_left, byte_left, steps_after, completed, plan_after, unless, performed_as, performed_row, performed}
-use Rattle.core_step.specs.Machine.{after_of, state_of, IsWhole, accesses, accesses_by, away_in}
+use Rattle.core_step.specs.Effect.{Effect, After, processor_of, left_by}
+use Rattle.core_step.specs.Strings.{is_over, passed_over, iterated, strings_effect}
+use Rattle.core_step.specs.Plan.{plan_of, plan_accesses, effect_of}
+use Rattle.core_step.specs.Alignment.{is_misaligned}
+use Rattle.core_step.specs.Act.{trapped, unless, performed_along, performed_as, performed_row, performed}
+use Rattle.core_step.specs.Machine.{after_of, state_of, processor_in, IsWhole, IsLeft, accesses, accesses_by, away_in, needed}
+use Rattle.core_step.proofs.Frame.{carried-is}
 
 -- ---- a walk stops at the first fault on whole memory, or at a page that is away
 -- a miss that isn't that of a page that is away
@@ -70,41 +79,65 @@ no-fault table (x ∷ xs) e =
     (first_fault (perms_in table) xs) (no-fault table xs) e
 
 -- ---- what is performed
--- what is performed, by the row
-performed-by : (d : Decoded) (len : ℕ) (s : State) (row : Row) → slice_get rows d.row ≡ Some row
-    → performed d len s ≡ performed_as (plan_of row d len s) s
-unfolding performed
-performed-by d len s row is = ap (λ (r : Option Row). performed_row r d len s) is
+-- an instruction whose alignment is broken
+module _ (d : Decoded) (len : ℕ) (s : State) (row : Row) (there : slice_get rows d.row ≡ Some row) where
+  pub performed-misaligned : is_misaligned row d len s ≡ true → performed d len s ≡ trapped General s
+  unfolding performed
+  performed-misaligned broken =
+      ap (λ (r : Option Row). performed_row r d len s) there
+      ∙ ap (λ (b : Bool). cond b (trapped General s) (performed_as (plan_of row d len s) s)) broken
 
--- the access list, by the row
-pub accesses-by : (d : Decoded) (len : ℕ) (s : State) (row : Row) → slice_get rows d.row ≡ Some row
-    → accesses d len s ≡ plan_accesses (plan_of row d len s) s.gprs
-unfolding accesses
-accesses-by d len s row is = ap (λ (r : Option Row). accesses_by r d len s) is
+  performed-aligned : is_misaligned row d len s ≡ false → performed d len s ≡ performed_as (plan_of row d len s) s
+  unfolding performed
+  performed-aligned kept =
+      ap (λ (r : Option Row). performed_row r d len s) there
+      ∙ ap (λ (b : Bool). cond b (trapped General s) (performed_as (plan_of row d len s) s)) kept
+
+  pub accesses-misaligned : is_misaligned row d len s ≡ true → accesses d len s ≡ []
+  unfolding accesses
+  accesses-misaligned broken =
+      ap (λ (r : Option Row). accesses_by r d len s) there
+      ∙ ap (λ (b : Bool). cond b [] (plan_accesses (plan_of row d len s) s)) broken
+
+  pub accesses-aligned : is_misaligned row d len s ≡ false → accesses d len s ≡ plan_accesses (plan_of row d len s) s
+  unfolding accesses
+  accesses-aligned kept =
+      ap (λ (r : Option Row). accesses_by r d len s) there
+      ∙ ap (λ (b : Bool). cond b [] (plan_accesses (plan_of row d len s) s)) kept
 
 -- an instruction performed is its first fault, or what it leaves
-performed_as-is : (i : Plan) (s : State) → performed_as i s ≡ unless (first_fault s.memory.perms (plan_accesses i s.gprs)) i s
+performed_as-is : (plan : Plan) (s : State) → performed_as plan s ≡ performed_along (plan_accesses plan s) plan s
 unfolding performed_as
-performed_as-is i s = refl
+performed_as-is plan s = refl
+
+performed-by : (d : Decoded) (len : ℕ) (s : State) (row : Row) (plan : Plan) (table : Table)
+    → slice_get rows d.row ≡ Some row → is_misaligned row d len s ≡ false → plan ≡ plan_of row d len s → s.memory.perms ≡ perms_in table
+    → performed d len s ≡ unless (first_fault (perms_in table) (plan_accesses plan s)) (plan_accesses plan s) plan s
+performed-by d len s row plan table there kept is perms =
+    performed-aligned d len s row there kept ∙ ap (λ (p : Plan). performed_as p s) (sym is) ∙ performed_as-is plan s
+    ∙ ap (λ (p : Permissions). unless (first_fault p (plan_accesses plan s)) (plan_accesses plan s) plan s) perms
 
 -- an instruction whose access isn't allowed
-pub performed-stops : (d : Decoded) (len : ℕ) (s : State) (row : Row) (i : Plan) (table : Table) (stop : Stop)
-    → slice_get rows d.row ≡ Some row → i ≡ plan_of row d len s → s.memory.perms ≡ perms_in table
-    → walk table (plan_accesses i s.gprs) ≡ Some stop → IsDenial stop.miss
+pub performed-stops : (d : Decoded) (len : ℕ) (s : State) (row : Row) (plan : Plan) (table : Table) (stop : Stop)
+    → slice_get rows d.row ≡ Some row → is_misaligned row d len s ≡ false → plan ≡ plan_of row d len s → s.memory.perms ≡ perms_in table
+    → walk table (plan_accesses plan s) ≡ Some stop → IsDenial stop.miss
     → performed d len s ≡ trapped (access_fault stop.kind stop.miss) s
-performed-stops d len s row i table stop there is perms e denial =
-    performed-by d len s row there ∙ ap (λ (j : Plan). performed_as j s) (sym is) ∙ performed_as-is i s
-    ∙ ap (λ (p : Permissions). unless (first_fault p (plan_accesses i s.gprs)) i s) perms
-    ∙ ap (λ (fault : Option Fault). unless fault i s) (faults-first table (plan_accesses i s.gprs) stop denial e)
+performed-stops d len s row plan table stop there kept is perms e denial =
+    performed-by d len s row plan table there kept is perms
+    ∙ ap (λ (fault : Option Fault). unless fault (plan_accesses plan s) plan s) (faults-first table (plan_accesses plan s) stop denial e)
 
 -- an instruction whose accesses can be made
-pub performed-passes : (d : Decoded) (len : ℕ) (s : State) (row : Row) (i : Plan) (table : Table)
-    → slice_get rows d.row ≡ Some row → i ≡ plan_of row d len s → s.memory.perms ≡ perms_in table
-    → walk table (plan_accesses i s.gprs) ≡ None → performed d len s ≡ plan_after i s
-performed-passes d len s row i table there is perms e =
-    performed-by d len s row there ∙ ap (λ (j : Plan). performed_as j s) (sym is) ∙ performed_as-is i s
-    ∙ ap (λ (p : Permissions). unless (first_fault p (plan_accesses i s.gprs)) i s) perms
-    ∙ ap (λ (fault : Option Fault). unless fault i s) (no-fault table (plan_accesses i s.gprs) e)
+pub performed-passes : (d : Decoded) (len : ℕ) (s : State) (row : Row) (plan : Plan) (table : Table)
+    → slice_get rows d.row ≡ Some row → is_misaligned row d len s ≡ false → plan ≡ plan_of row d len s → s.memory.perms ≡ perms_in table
+    → walk table (plan_accesses plan s) ≡ None → performed d len s ≡ left_by (effect_of plan (processor_of s) s.memory.byte) s.memory
+performed-passes d len s row plan table there kept is perms e =
+    performed-by d len s row plan table there kept is perms
+    ∙ ap (λ (fault : Option Fault). unless fault (plan_accesses plan s) plan s) (no-fault table (plan_accesses plan s) e) ∙ carried-is plan s
+
+-- nothing stops a walk along no accesses
+pub walk-none : (table : Table) → walk table [] ≡ None
+unfolding walk
+walk-none table = refl
 
 -- ---- the answers
 -- an access that isn't allowed, or a page that is away
@@ -131,38 +164,54 @@ whole-own d len old new Call own h = h
 whole-own d len old new (Trap fault) own h = h
 whole-own d len old new (Need slot) own h = absurd (own slot refl)
 
--- ---- what an instruction leaves
--- the state that was left, by its parts
-pub after-is : (i : Instruction) (o other : Outcome) (s t : State) → o ≡ other → t.gprs ≡ gprs_left i o s.gprs
-    → t.flags ≡ o.flags → t.rip ≡ o.rip → t.extended ≡ s.extended → t.fs ≡ s.fs → t.gs ≡ s.gs
-    → t.steps ≡ steps_after o.acted s.steps → t.memory.perms ≡ s.memory.perms → t.memory.byte ≡ byte_left i o s.memory.byte
-    → (let after : After = record { acted = o.acted; state = t } in after) ≡ completed i other s
-after-is i o other s t same gprs flags rip extended fs gs steps perms byte =
-    (λ k. record {
-      acted = o.acted;
-      state = record {
-        gprs = gprs k;
-        flags = flags k;
-        rip = rip k;
-        extended = extended k;
-        fs = fs k;
-        gs = gs k;
-        steps = steps k;
-        memory = record { perms = perms k; byte = byte k };
-      };
-    })
-    ∙ ap (λ (x : Outcome). completed i x s) same
+-- an answer that needs no page, where nothing stops the walk
+pub own-needs : (acted : Acted) (table : Table) (xs : List Access) (slot : ℕ) → (acted ≡ Need slot → ⊥) → walk table xs ≡ None
+    → (acted ≡ Need slot) ↔ (needed (walk table xs) ≡ Some slot)
+own-needs acted table xs slot own none = (λ e. absurd (own e), λ e. absurd (let clash : None ≡ Some slot = ap needed (sym none) ∙ e in cc))
 
--- a state by its parts
-pub state-is : (s t : State) → t.gprs ≡ s.gprs → t.flags ≡ s.flags → t.rip ≡ s.rip → t.extended ≡ s.extended → t.fs ≡ s.fs → t.gs ≡ s.gs
-    → t.steps ≡ s.steps → t.memory.perms ≡ s.memory.perms → t.memory.byte ≡ s.memory.byte → t ≡ s
-state-is s t gprs flags rip extended fs gs steps perms byte = λ k. record {
-  gprs = gprs k;
-  flags = flags k;
-  rip = rip k;
-  extended = extended k;
-  fs = fs k;
-  gs = gs k;
-  steps = steps k;
-  memory = record { perms = perms k; byte = byte k };
+-- ---- what an instruction leaves
+-- pages that stay keep their table
+pub keeps-itself : (pages : PagesValue) → KeepsTable pages pages
+keeps-itself pages = record { size = record { frames = refl; pages = refl }; table = refl; count = refl }
+
+-- what is done needs no page
+pub done-own : (slot : ℕ) → ◌≡◌ {A = Acted} Done (Need slot) → ⊥
+done-own slot e = cc
+
+-- nor does an outcome
+pub outcome-own : (acted : Acted) (o : Outcome) (f : Flags) → ActedFits acted o f → (slot : ℕ) → acted ≡ Need slot → ⊥
+outcome-own Done o f fits slot e = cc
+outcome-own Call o f fits slot e = cc
+outcome-own (Trap fault) o f fits slot e = cc
+outcome-own (Need other) o f fits slot e = absurd fits
+
+-- an effect's state, by its parts
+pub left-is : (e : Effect) (memory : Memory) (acted : Acted) (t : State) → acted ≡ e.acted → t.gprs ≡ e.processor.gprs
+    → t.flags ≡ e.processor.flags → t.rip ≡ e.processor.rip → t.extended ≡ e.processor.extended → t.fs ≡ e.processor.fs
+    → t.gs ≡ e.processor.gs → t.steps ≡ e.processor.steps → t.memory.perms ≡ memory.perms → t.memory.byte ≡ e.byte
+    → (let after : After = record { acted = acted; state = t } in after) ≡ left_by e memory
+left-is e memory acted t acts gprs flags rip extended fs gs steps perms byte = λ k. record {
+  acted = acts k;
+  state = record {
+    gprs = gprs k;
+    flags = flags k;
+    rip = rip k;
+    extended = extended k;
+    fs = fs k;
+    gs = gs k;
+    steps = steps k;
+    memory = record { perms = perms k; byte = byte k };
+  };
+}
+
+-- the effect of an instruction on strings is one of two
+pub left-strings : (over : Bool) (old new : Machine) (acted : Acted) (i : StringPlan) → is_over i old.gprs ≡ over
+    → IsLeft old new acted (λ p byte. cond over (passed_over i p byte) (iterated i p byte)) → IsLeft old new acted (strings_effect i)
+left-strings over old new acted i is left = record {
+  after = λ w.
+      left.after w
+      ∙ ap (λ (b : Bool). left_by (cond b (passed_over i (processor_in old) (byte_of old.pages w)) (iterated i (processor_in old) (byte_of old.pages w))) (memory_of old.pages w)) (sym is);
+  own = left.own;
+  table = left.table;
+  counted = left.counted;
 }

@@ -1,5 +1,5 @@
 -- The walk along the access list of an instruction.
-use Rattle.std.proofs.Common.{◌≡◌, ℕ, false, [], ◌∷◌, Option, None, refl, sym, ap, ◌∙◌}
+use Rattle.std.proofs.Common.{◌≡◌, ℕ, [], ◌∷◌, Option, None, refl, sym, ap, ◌∙◌}
 use Rattle.machine_state.specs.declared.kinds.Kind.{Kind}
 use Rattle.machine_state.specs.declared.kinds.Kind.TheVariants.{Read, Write}
 use Rattle.machine_state.specs.declared.kinds.Stop.{Stop}
@@ -15,8 +15,8 @@ use Rattle.core_step.specs.declared.kinds.PairPlan.{PairPlan}
 use Rattle.core_step.specs.Size.{bytes_in}
 use Rattle.core_step.specs.Operands.{use_of}
 use Rattle.core_step.specs.Access.{operand_access, kind_of, accesses_of}
-use Rattle.core_step.specs.Pair.{pair_bytes, pair_write, pair_access, is_misaligned}
-use Rattle.core_step.specs.Act.{number_for}
+use Rattle.core_step.specs.Pair.{pair_bytes, pair_write, pair_access}
+use Rattle.core_step.specs.Plain.{number_for}
 
 -- an operand in memory whose walk doesn't stop can be accessed
 pub free-memory : (table : Table) (kind : Kind) (addr : ℕ) (size : Size) → walk table (operand_access kind (Memory addr) size) ≡ None
@@ -46,12 +46,6 @@ written-kind Reads number some = absurd (some refl)
 written-kind Writes number some = refl
 written-kind Update number some = refl
 
--- ---- the access list of a pair
--- the access of CMPXCHG8B, or of CMPXCHG16B in a right place
-pair_access-is : (i : PairPlan) → is_misaligned i ≡ false → pair_access i ≡ pair_write i ∷ []
-unfolding pair_access
-pair_access-is i right = rw right refl
-
-pub pair-free : (table : Table) (i : PairPlan) → is_misaligned i ≡ false → walk table (pair_access i) ≡ None
-    → blocked table Write i.addr (pair_bytes i) ≡ None
-pair-free table i right none = first-free table (pair_write i) [] (ap (walk table) (sym (pair_access-is i right)) ∙ none)
+-- the access of a pair
+pub pair-free : (table : Table) (i : PairPlan) → walk table (pair_access i) ≡ None → blocked table Write i.addr (pair_bytes i) ≡ None
+pair-free table i none = first-free table (pair_write i) [] none

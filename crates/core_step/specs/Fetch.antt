@@ -7,6 +7,7 @@ use Rattle.gpr_flags.specs.declared.kinds.Fault.TheVariants.{Undefined, General,
 use Rattle.machine_state.specs.Memory.{miss_at, first_miss, bytes_at, allowed_run}
 use Rattle.machine_state.specs.State.{State}
 use Rattle.guest_pages.specs.Table.{Table, perms_in, away_at, blocked}
+use Rattle.form_scan.specs.Shaped.{most_bytes}
 use Rattle.x_decode.specs.declared.kinds.Seen.{Seen}
 use Rattle.x_decode.specs.declared.kinds.Seen.TheVariants.{Instr as Spells, Short, TooLong, Bad}
 use Rattle.x_decode.specs.Seeing.{IsDecoded, seen, IsSeen}
@@ -30,10 +31,10 @@ outcome Short stop = stopped stop
 outcome TooLong stop = Trap General
 outcome Bad stop = Trap Undefined
 
--- what is fetched from whole memory: by the bytes from the instruction pointer up to the first that isn't allowed, at most
--- fifteen, and by that first byte. No page is away there, so none is needed
+-- what is fetched from whole memory: by the bytes from the instruction pointer up to the first that isn't allowed, as many at
+-- most as an instruction has, and by that first byte. No page is away there, so none is needed
 unfoldable pub fetched : State → Fetched
-fetched s = outcome (seen (allowed_run s.memory Execute s.rip 15)) (first_miss s.memory.perms Execute s.rip 15)
+fetched s = outcome (seen (allowed_run s.memory Execute s.rip most_bytes)) (first_miss s.memory.perms Execute s.rip most_bytes)
 
 -- ---- as far as bytes can be had now
 -- so many bytes can be fetched now, and they are `most`, or the next one can't
@@ -46,7 +47,7 @@ pub record IsRun (table : Table) (addr most count : ℕ) (stop : Option Miss) : 
 -- executed, but lies on the away page in this slot
 pub record NeedsPage (table : Table) (byte : ℕ → ℕ) (rip slot : ℕ) : Type 0 where
   pub count : ℕ
-  pub fewer : count < 15
+  pub fewer : count < most_bytes
   pub ready : blocked table Execute rip count ≡ None
   pub short : seen (bytes_at byte rip count) ≡ Short
   pub allowed : miss_at (perms_in table) Execute (rip + count) ≡ None
@@ -64,8 +65,8 @@ IsFetched s (Instr d len) = Instr d len ≡ fetched s
 IsFetched s (Trap fault) = Trap fault ≡ fetched s
 IsFetched s (Need slot) = ⊤
 
--- the fields of the instruction spell its row, and it has from one to fifteen bytes
+-- the fields of the instruction spell its row, and it has at least one byte and at most as many as an instruction has
 abbrev pub IsFetchFit : Fetched → Type 0
-IsFetchFit (Instr d len) = IsDecoded d.fields d × (1 ≤ len) × (len ≤ 15)
+IsFetchFit (Instr d len) = IsDecoded d.fields d × (1 ≤ len) × (len ≤ most_bytes)
 IsFetchFit (Trap fault) = ⊤
 IsFetchFit (Need slot) = ⊤

@@ -1,6 +1,6 @@
--- What a fetcher keeps. No public clause cites this module.
+-- What a cache of fetches keeps. No public clause cites this module.
 use Rattle.std.specs.Prelude.{ℕ, ◌≡◌, ◌<◌, List, length, slice_index_or}
-use Rattle.core_step.specs.declared.fetcher.Sighting.{Sighting}
+use Rattle.core_step.specs.declared.fetch_cache.Sighting.{Sighting}
 use Rattle.core_step.specs.Fetch.{IsOutcome}
 
 -- 4,096 byte strings, each with what comes of its fetch

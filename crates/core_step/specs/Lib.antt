@@ -4,11 +4,14 @@ pub mod Address
 pub mod Operands
 pub mod Fits
 pub mod Access
+pub mod Effect
+pub mod Result
+pub mod Plain
 pub mod Strings
 pub mod Pair
 pub mod Plan
+pub mod Alignment
 pub mod Pages
-pub mod Result
 pub mod Fetch
 pub mod Act
 pub mod Kept

@@ -1,12 +1,13 @@
 -- The state that a machine stands for, and what the calls on it do with it.
-use Rattle.std.specs.Prelude.{ℕ, ◌≡◌, ◌+◌, ◌/◌, ◌<◌, ◌≤◌, ◌⊎◌, Option, Some, None, List, [], slice_get}
+use Rattle.std.specs.Prelude.{ℕ, ◌≡◌, ◌+◌, ◌/◌, ◌<◌, ◌≤◌, ◌⊎◌, if◌then◌else◌, Option, Some, None, List, [], slice_get}
 use Rattle.std.specs.List.{All}
 use Rattle.machine_state.specs.declared.kinds.Kind.TheVariants.{Write}
 use Rattle.machine_state.specs.declared.kinds.Miss.{Miss}
 use Rattle.machine_state.specs.declared.kinds.Miss.TheVariants.{Away}
 use Rattle.machine_state.specs.Memory.{Memory, Swap}
 use Rattle.machine_state.specs.State.{State, initial_extended}
-use Rattle.guest_pages.specs.Pages.{memory_of}
+use Rattle.guest_pages.specs.Pages.{byte_of, memory_of}
+use Rattle.guest_pages.specs.Changes.{KeepsTable}
 use Rattle.row_table.specs.declared.kinds.Row.{Row}
 use Rattle.row_table.specs.declared.kinds.Decoded.{Decoded}
 use Rattle.row_table.specs.Rows.{rows}
@@ -15,12 +16,15 @@ use Rattle.core_step.specs.declared.acted.Acted.{Acted}
 use Rattle.core_step.specs.declared.acted.Acted.TheVariants.{Need}
 use Rattle.machine_state.specs.declared.kinds.Access.{Access}
 use Rattle.machine_state.specs.declared.kinds.Stop.{Stop}
+use Rattle.core_step.specs.Effect.{Processor, Effect, After, state_with, left_by}
+use Rattle.core_step.specs.Plain.{steps_after}
 use Rattle.core_step.specs.Plan.{plan_of, plan_accesses}
-use Rattle.core_step.specs.Act.{After, performed}
+use Rattle.core_step.specs.Alignment.{is_misaligned}
+use Rattle.core_step.specs.Act.{performed}
 
--- the state that a machine and a swap stand for; what the machine doesn't have is as at the start
-abbrev pub state_of : Machine → Swap → State
-state_of m w = record {
+-- the processor of a machine; what the machine doesn't have is as at the start
+abbrev pub processor_in : Machine → Processor
+processor_in m = record {
   gprs = m.gprs;
   flags = m.flags;
   rip = m.rip;
@@ -28,8 +32,11 @@ state_of m w = record {
   fs = m.fs;
   gs = m.gs;
   steps = m.steps;
-  memory = memory_of m.pages w;
 }
+
+-- the state that a machine and a swap stand for
+abbrev pub state_of : Machine → Swap → State
+state_of m w = state_with (processor_in m) (memory_of m.pages w)
 
 -- an answer with the machine that it leaves, as a step has them
 abbrev pub after_of : Acted → Machine → Swap → After
@@ -41,9 +48,17 @@ abbrev pub IsWhole : Decoded → ℕ → Machine → Machine → Acted → Type 
 IsWhole d len old new (Need slot) = (w : Swap) → performed d len (state_of new w) ≡ performed d len (state_of old w)
 IsWhole d len old new acted = (w : Swap) → after_of acted new w ≡ performed d len (state_of old w)
 
+-- what the code of one kind of instruction does where its accesses can be made: its effect, by the bytes that each swap gives
+pub record IsLeft (old new : Machine) (acted : Acted) (effect : Processor → (ℕ → ℕ) → Effect) : Type 0 where
+  pub after : (w : Swap) → after_of acted new w ≡ left_by (effect (processor_in old) (byte_of old.pages w)) (memory_of old.pages w)
+  pub own : (slot : ℕ) → acted ≡ Need slot → ⊥
+  pub table : KeepsTable old.pages new.pages
+  pub counted : new.steps ≡ steps_after acted old.steps
+
 -- ---- the access list of an instruction
+-- where alignment is broken nothing is accessed
 abbrev pub accesses_by : Option Row → Decoded → ℕ → State → List Access
-accesses_by (Some row) d len s = plan_accesses (plan_of row d len s) s.gprs
+accesses_by (Some row) d len s = if is_misaligned row d len s then [] else plan_accesses (plan_of row d len s) s
 accesses_by None d len s = []
 
 unfoldable pub accesses : Decoded → ℕ → State → List Access

@@ -3,6 +3,7 @@ use Rattle.std.specs.Prelude.{ℕ, ◌≤◌, ◌<◌, ◌+◌, ◌/◌, List, [
 use Rattle.std.specs.List.{All, Contains}
 use Rattle.machine_state.specs.declared.kinds.Kind.TheVariants.{Execute}
 use Rattle.machine_state.specs.declared.kinds.Access.{Access}
+use Rattle.form_scan.specs.Shaped.{most_bytes}
 
 -- each byte of an access lies on one of these pages
 abbrev pub LiesOn : List ℕ → Access → Type 0
@@ -16,4 +17,4 @@ pub record TouchesAtMost (most : ℕ) (accesses : List Access) : Type 0 where
 
 -- the bytes that the fetch of an instruction may read
 abbrev pub fetch_accesses : (rip : ℕ) → List Access
-fetch_accesses rip = record { kind = Execute; addr = rip; len = 15 } ∷ []
+fetch_accesses rip = record { kind = Execute; addr = rip; len = most_bytes } ∷ []

@@ -1,5 +1,5 @@
 -- CMPXCHG8B and CMPXCHG16B (SDM volume 2, CMPXCHG8B/CMPXCHG16B).
-use Rattle.std.specs.Prelude.{ℕ, ◌+◌, ◌*◌, ◌/◌, ◌%◌, ◌^◌, ◌==◌, Bool, true, false, not, ◌&&◌, if◌then◌else◌, List, [], ◌∷◌, slice_index}
+use Rattle.std.specs.Prelude.{ℕ, ◌+◌, ◌*◌, ◌/◌, ◌^◌, ◌==◌, Bool, if◌then◌else◌, List, [], ◌∷◌, slice_index}
 use Rattle.byteorder.specs.Endian.{little_bytes}
 use Rattle.machine_state.specs.declared.kinds.Kind.TheVariants.{Write}
 use Rattle.machine_state.specs.Memory.{written, number_at}
@@ -11,11 +11,13 @@ use Rattle.row_table.specs.declared.operations.Op.TheVariants.{Core}
 use Rattle.row_table.specs.declared.operations.CoreOp.TheVariants.{Cmpxchg8b}
 use Rattle.machine_state.specs.declared.kinds.Access.{Access}
 use Rattle.core_step.specs.declared.kinds.Size.{Size}
-use Rattle.core_step.specs.declared.kinds.Size.TheVariants.{Byte, Word, Double, Quad}
+use Rattle.core_step.specs.declared.kinds.Size.TheVariants.{Double, Quad}
+use Rattle.core_step.specs.declared.acted.Acted.TheVariants.{Done}
 use Rattle.core_step.specs.declared.kinds.PairPlan.{PairPlan}
 use Rattle.core_step.specs.Size.{bytes_in, bits_in, cut}
 use Rattle.core_step.specs.Address.{address_of}
 use Rattle.core_step.specs.Operands.{bases_for}
+use Rattle.core_step.specs.Effect.{Processor, Effect}
 
 -- the size of each half: 32 bits, or 64 in the row of 128
 abbrev pub half_in : Row → Size
@@ -33,22 +35,12 @@ pair_of row d next s = record {
 abbrev pub pair_bytes : PairPlan → ℕ
 pair_bytes i = 2 * bytes_in i.half
 
--- sixteen bytes have to lie at a multiple of 16
-abbrev pub is_quad : Size → Bool
-is_quad Quad = true
-is_quad Byte = false
-is_quad Word = false
-is_quad Double = false
-
-abbrev pub is_misaligned : PairPlan → Bool
-is_misaligned i = is_quad i.half && not (i.addr % 16 == 0)
-
 abbrev pub pair_write : PairPlan → Access
 pair_write i = record { kind = Write; addr = i.addr; len = pair_bytes i }
 
--- the access list: where the place is wrong nothing is accessed
-unfoldable pub pair_access : PairPlan → List Access
-pair_access i = if is_misaligned i then [] else pair_write i ∷ []
+-- the access list
+abbrev pub pair_access : PairPlan → List Access
+pair_access i = pair_write i ∷ []
 
 -- ---- what comes of it
 -- two registers' parts of this size as one number
@@ -79,15 +71,19 @@ gprs_exchanged i found gprs = if is_equal i.half found gprs then gprs else pair_
 unfoldable pub byte_exchanged : PairPlan → (found : ℕ) → List ℕ → (ℕ → ℕ) → ℕ → ℕ
 byte_exchanged i found gprs byte = if is_equal i.half found gprs then pair_stored i gprs byte else byte
 
--- the state afterwards, by what stood in memory
-abbrev pub exchanged : PairPlan → (found : ℕ) → State → State
-exchanged i found s = record s {
-  gprs = gprs_exchanged i found s.gprs;
-  flags = record s.flags { zf = is_equal i.half found s.gprs };
-  rip = i.next;
-  steps = s.steps + 1;
-  memory = record s.memory { byte = byte_exchanged i found s.gprs s.memory.byte };
+-- the effect, by what stood in memory
+abbrev pub exchanged : PairPlan → (found : ℕ) → Processor → (ℕ → ℕ) → Effect
+exchanged i found p byte = record {
+  acted = Done;
+  processor = record p {
+    gprs = gprs_exchanged i found p.gprs;
+    flags = record p.flags { zf = is_equal i.half found p.gprs };
+    rip = i.next;
+    steps = p.steps + 1;
+  };
+  byte = byte_exchanged i found p.gprs byte;
 }
 
-abbrev pub pair_left : PairPlan → State → State
-pair_left i s = exchanged i (pair_at i s.memory.byte) s
+-- the effect, by the bytes of memory
+abbrev pub pair_effect : PairPlan → Processor → (ℕ → ℕ) → Effect
+pair_effect i p byte = exchanged i (pair_at i byte) p byte

@@ -10,6 +10,7 @@ use Rattle.row_table.specs.declared.operations.Op.TheVariants.{String}
 use Rattle.row_table.specs.declared.operations.StringOp.{StringOp}
 use Rattle.row_table.specs.declared.operations.StringOp.TheVariants.{Cmps, Scas}
 use Rattle.machine_state.specs.State.{State}
+use Rattle.core_step.specs.declared.acted.Acted.TheVariants.{Done}
 use Rattle.machine_state.specs.declared.kinds.Access.{Access}
 use Rattle.string_unit.specs.Strings.{place_bits, source_place, destination_place, string_accesses, string_gprs, string_flags, string_byte}
 use Rattle.core_step.specs.declared.kinds.Repeat.{Repeat}
@@ -18,6 +19,7 @@ use Rattle.core_step.specs.declared.kinds.StringPlan.{StringPlan}
 use Rattle.core_step.specs.Size.{bytes_in}
 use Rattle.core_step.specs.Address.{segment_base}
 use Rattle.core_step.specs.Operands.{row_size, bases_for}
+use Rattle.core_step.specs.Effect.{Processor, Effect}
 
 -- what the last of the prefixes F2 and F3 says
 abbrev pub repeat_of : Fields → Repeat
@@ -81,33 +83,38 @@ goes_on op repeat flags = true
 abbrev pub is_continued : StringPlan → (count : ℕ) → Flags → Bool
 is_continued i count flags = is_repeated i.repeat && (not (count - 1 == 0) && goes_on i.op i.repeat flags)
 
-unfoldable pub gprs_iterated : StringPlan → State → List ℕ
-gprs_iterated i s =
-    with_count i (count_in i s.gprs)
-    (string_gprs i.op (bytes_in i.size) i.wrap32 s.flags.df (source_of i s.gprs) s.memory.byte s.gprs)
+unfoldable pub gprs_iterated : StringPlan → Processor → (ℕ → ℕ) → List ℕ
+gprs_iterated i p byte =
+    with_count i (count_in i p.gprs)
+    (string_gprs i.op (bytes_in i.size) i.wrap32 p.flags.df (source_of i p.gprs) byte p.gprs)
 
-unfoldable pub flags_iterated : StringPlan → State → Flags
-flags_iterated i s =
-    string_flags i.op (bytes_in i.size) (source_of i s.gprs) (destination_of i s.gprs) s.memory.byte s.gprs s.flags
+unfoldable pub flags_iterated : StringPlan → Processor → (ℕ → ℕ) → Flags
+flags_iterated i p byte = string_flags i.op (bytes_in i.size) (source_of i p.gprs) (destination_of i p.gprs) byte p.gprs p.flags
 
-unfoldable pub byte_iterated : StringPlan → State → ℕ → ℕ
-byte_iterated i s =
-    string_byte i.op (bytes_in i.size) (source_of i s.gprs) (destination_of i s.gprs) s.gprs s.memory.byte
+unfoldable pub byte_iterated : StringPlan → Processor → (ℕ → ℕ) → ℕ → ℕ
+byte_iterated i p byte = string_byte i.op (bytes_in i.size) (source_of i p.gprs) (destination_of i p.gprs) p.gprs byte
 
--- the state after an iteration: the instruction pointer stays where another one follows
-abbrev pub iterated : StringPlan → State → State
-iterated i s = record s {
-  gprs = gprs_iterated i s;
-  flags = flags_iterated i s;
-  rip = if is_continued i (count_in i s.gprs) (flags_iterated i s) then s.rip else i.next;
-  steps = s.steps + 1;
-  memory = record s.memory { byte = byte_iterated i s };
+-- the instruction pointer stays where another iteration follows
+abbrev pub rip_iterated : StringPlan → Processor → (ℕ → ℕ) → ℕ
+rip_iterated i p byte = if is_continued i (count_in i p.gprs) (flags_iterated i p byte) then p.rip else i.next
+
+-- the effect of an iteration
+abbrev pub iterated : StringPlan → Processor → (ℕ → ℕ) → Effect
+iterated i p byte = record {
+  acted = Done;
+  processor = record p {
+    gprs = gprs_iterated i p byte;
+    flags = flags_iterated i p byte;
+    rip = rip_iterated i p byte;
+    steps = p.steps + 1;
+  };
+  byte = byte_iterated i p byte;
 }
 
--- the state where nothing is done
-abbrev pub passed_over : StringPlan → State → State
-passed_over i s = record s { rip = i.next; steps = s.steps + 1 }
+-- and where nothing is done
+abbrev pub passed_over : StringPlan → Processor → (ℕ → ℕ) → Effect
+passed_over i p byte = record { acted = Done; processor = record p { rip = i.next; steps = p.steps + 1 }; byte = byte }
 
--- the state after a step
-abbrev pub strings_left : StringPlan → State → State
-strings_left i s = if is_over i s.gprs then passed_over i s else iterated i s
+-- the effect, by the bytes of memory
+abbrev pub strings_effect : StringPlan → Processor → (ℕ → ℕ) → Effect
+strings_effect i p byte = if is_over i p.gprs then passed_over i p byte else iterated i p byte

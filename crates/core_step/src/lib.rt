@@ -1,11 +1,12 @@
 //! A step of the machine: an instruction is fetched, told from its bytes by the row table, and performed. Performing goes
-//! by stages that are the same for all rows: the operands are found, the access list is walked, what it reads is loaded,
-//! the numbers that come of it are worked out, and these are put to their places.
+//! by stages that are the same for all rows: the operands are found, alignment is looked at, the access list is walked, what it
+//! reads is loaded, the numbers that come of it are worked out, and these are put to their places.
 #![tactic(auto)]
 
 mod acted;
 mod addressing;
-mod fetcher;
+mod alignment;
+mod fetch_cache;
 mod fetching;
 mod flags;
 mod kinds;
@@ -23,7 +24,7 @@ mod values;
 mod walking;
 
 pub use acted::Acted;
-pub use fetcher::Fetcher;
+pub use fetch_cache::FetchCache;
 pub use fetching::Fetched;
 pub use gpr_flags::{Fault, Flags, Gprs};
 pub use guest_pages::Pages;

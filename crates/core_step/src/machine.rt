@@ -6,29 +6,30 @@ ghost use Rattle.guest_pages.specs.Pages.{table_of, byte_of};
 ghost use Rattle.guest_pages.specs.Walk.{walk};
 ghost use Rattle.guest_pages.specs.Changes.{KeepsTable};
 ghost use Rattle.row_table.specs.Rows.{rows};
+ghost use Rattle.form_scan.specs.Shaped.{most_bytes};
 ghost use Rattle.x_decode.specs.Seeing.{IsDecoded};
 ghost use Rattle.string_unit.specs.Strings.{string_accesses};
 ghost use Rattle.core_step.specs.Size.{bytes_in};
 ghost use Rattle.core_step.specs.Access.{accesses_of};
-ghost use Rattle.core_step.specs.Strings.{source_of, destination_of, strings_access, iterated, strings_left};
-ghost use Rattle.core_step.specs.Pair.{pair_bytes, pair_access, pair_left};
-ghost use Rattle.core_step.specs.Plan.{plan_accesses};
+ghost use Rattle.core_step.specs.Plain.{plain_effect, steps_after, gprs_left, byte_left};
+ghost use Rattle.core_step.specs.Strings.{source_of, destination_of, strings_access, iterated, strings_effect};
+ghost use Rattle.core_step.specs.Pair.{pair_bytes, pair_effect};
+ghost use Rattle.core_step.specs.Plan.{plan_accesses, effect_of};
 ghost use Rattle.core_step.specs.Pages.{TouchesAtMost, fetch_accesses};
-ghost use Rattle.core_step.specs.Act.{outcome_in, completed, pair_after, plan_after, steps_after, gprs_left, byte_left};
 ghost use Rattle.core_step.specs.Fits.{InstructionFits, PlanFits};
 ghost use Rattle.core_step.specs.Fetch.{NeedsPage, IsFetched, IsFetchFit, fetched};
-ghost use Rattle.core_step.specs.Machine.{IsWhole, IsLocal, IsFramed, accesses, needed, state_of, after_of};
+ghost use Rattle.core_step.specs.Machine.{IsWhole, IsLeft, IsLocal, IsFramed, accesses, needed, state_of};
 
 use crate::acted::Acted;
-use crate::fetcher::Fetcher;
+use crate::fetch_cache::FetchCache;
 use crate::fetching::{Fetched, fetch_outcome, read_run};
 use crate::kinds::{Instruction, Outcome, PairPlan, Plan, StringPlan};
 use crate::operands::destination_use;
-use crate::pair::{exchange_memory, exchange_registers, is_equal, is_misaligned, load};
+use crate::pair::{exchange_memory, exchange_registers, is_equal, load};
 use crate::results::outcome;
 use crate::strings::{count, is_over, iterate_once, lower_count, rip_after};
 use crate::values::{move_stack, number_for, old_value, put, put_register, register_value, value};
-use crate::walking::{answer, check_all};
+use crate::walking::answer;
 use gpr_flags::{Fault, Flags, Gprs};
 use guest_pages::Pages;
 use machine_state::Kind;
@@ -66,8 +67,8 @@ impl Machine {
         fetch_outcome(decode(&bytes[..run.count]), run.stop)
     }
 
-    /// The same by a fetcher, which keeps what came of fetches.
-    pub fn fetch_by<'f>(&self, fetcher: &'f mut Fetcher) -> &'f Fetched
+    /// The same by a cache, which keeps what came of fetches.
+    pub fn fetch_by<'f>(&self, cache: &'f mut FetchCache) -> &'f Fetched
         ensures whole { (w : Swap) → IsFetched (state_of self.now w) result.now }
         ensures never { (w : Swap) (slot : ℕ) → fetched (state_of self.now w) ≡ Fetched.Need slot → ⊥ }
         ensures need { (w : Swap) (slot : ℕ) → (result.now ≡ Fetched.Need slot)
@@ -78,9 +79,9 @@ impl Machine {
         let mut bytes = [0; LIMIT];
         let run = read_run(&self.pages, self.rip, &mut bytes);
         if run.count == bytes.len() {
-            fetcher.recall(self.rip, &bytes)
+            cache.recall(self.rip, &bytes)
         } else {
-            fetcher.hold(fetch_outcome(decode(&bytes[..run.count]), run.stop))
+            cache.hold(fetch_outcome(decode(&bytes[..run.count]), run.stop))
         }
     }
 
@@ -91,7 +92,7 @@ impl Machine {
     pub fn perform(&mut self, d: &Decoded, len: u8) -> Acted
         requires spells { IsDecoded d.now.fields d.now }
         requires some { 1 ≤ len }
-        requires most { len ≤ 15 }
+        requires most { len ≤ most_bytes }
         requires room { self.old.steps < 2 ^ 64 - 1 }
         ensures whole { IsWhole d.now len self.old self.new result }
         // Exactly where the walk along the access list meets an allowed access on the page in that slot, which is away,
@@ -107,8 +108,12 @@ impl Machine {
         // A byte outside of its write accesses stays.
         ensures framed { (w : Swap) → IsFramed d.now len (state_of self.old w) }
     {
-        let plan = self.plan_for(&row(d.row), d, len);
-        match check_all(&self.pages, &plan, &self.gprs) {
+        let row = row(d.row);
+        if self.is_misaligned(&row, d, len) {
+            return Acted::Trap(Fault::General);
+        }
+        let plan = self.plan_for(&row, d, len);
+        match self.walk(&plan) {
             Err(stop) => answer(stop),
             Ok(()) => self.finish(&plan),
         }
@@ -117,12 +122,9 @@ impl Machine {
     // Performs an instruction whose accesses can be made.
     fn finish(&mut self, plan: &Plan) -> Acted
         requires fits { PlanFits plan.now }
-        requires ready { walk (table_of self.old.pages) (plan_accesses plan.now self.old.gprs) ≡ None }
+        requires ready { (w : Swap) → walk (table_of self.old.pages) (plan_accesses plan.now (state_of self.old w)) ≡ None }
         requires room { self.old.steps < 2 ^ 64 - 1 }
-        ensures after { (w : Swap) → after_of result self.new w ≡ plan_after plan.now (state_of self.old w) }
-        ensures own { (slot : ℕ) → result ≡ Acted.Need slot → ⊥ }
-        ensures pages { KeepsTable self.old.pages self.new.pages }
-        ensures counted { self.new.steps ≡ steps_after result self.old.steps }
+        ensures { IsLeft self.old self.new result (effect_of plan.now) }
     {
         match plan {
             Plan::Plain(i) => self.complete(i),
@@ -145,10 +147,7 @@ impl Machine {
     fn pass_strings(&mut self, i: &StringPlan) -> Acted
         requires ready { walk (table_of self.old.pages) (strings_access i.now self.old.gprs) ≡ None }
         requires room { self.old.steps < 2 ^ 64 - 1 }
-        ensures done { result ≡ Acted.Done }
-        ensures state { (w : Swap) → state_of self.new w ≡ strings_left i.now (state_of self.old w) }
-        ensures pages { KeepsTable self.old.pages self.new.pages }
-        ensures steps { self.new.steps ≡ self.old.steps + 1 }
+        ensures { IsLeft self.old self.new result (strings_effect i.now) }
     {
         if is_over(i, &self.gprs) {
             self.move_on(i.next);
@@ -164,9 +163,7 @@ impl Machine {
         requires ready { walk (table_of self.old.pages) (string_accesses i.now.op (bytes_in i.now.size)
             (source_of i.now self.old.gprs) (destination_of i.now self.old.gprs)) ≡ None }
         requires room { self.old.steps < 2 ^ 64 - 1 }
-        ensures state { (w : Swap) → state_of self.new w ≡ iterated i.now (state_of self.old w) }
-        ensures pages { KeepsTable self.old.pages self.new.pages }
-        ensures steps { self.new.steps ≡ self.old.steps + 1 }
+        ensures { IsLeft self.old self.new Acted.Done (iterated i.now) }
     {
         let count = count(i, &self.gprs);
         iterate_once(i, &mut self.gprs, &mut self.flags, &mut self.pages);
@@ -176,30 +173,10 @@ impl Machine {
     }
 
     // Performs CMPXCHG8B or CMPXCHG16B, whose access can be made.
-    #[tactic(auto, unfolding(crate::specs::Pair::pair_access))]
     fn exchange(&mut self, i: &PairPlan) -> Acted
-        requires ready { walk (table_of self.old.pages) (pair_access i.now) ≡ None }
-        requires room { self.old.steps < 2 ^ 64 - 1 }
-        ensures after { (w : Swap) → after_of result self.new w ≡ pair_after i.now (state_of self.old w) }
-        ensures own { (slot : ℕ) → result ≡ Acted.Need slot → ⊥ }
-        ensures pages { KeepsTable self.old.pages self.new.pages }
-        ensures counted { self.new.steps ≡ steps_after result self.old.steps }
-    {
-        if is_misaligned(i) {
-            Acted::Trap(Fault::General)
-        } else {
-            self.exchange_pair(i);
-            Acted::Done
-        }
-    }
-
-    // The same where the place is right.
-    fn exchange_pair(&mut self, i: &PairPlan)
         requires ready { blocked (table_of self.old.pages) Kind.Write i.now.addr (pair_bytes i.now) ≡ None }
         requires room { self.old.steps < 2 ^ 64 - 1 }
-        ensures state { (w : Swap) → state_of self.new w ≡ pair_left i.now (state_of self.old w) }
-        ensures pages { KeepsTable self.old.pages self.new.pages }
-        ensures steps { self.new.steps ≡ self.old.steps + 1 }
+        ensures { IsLeft self.old self.new result (pair_effect i.now) }
     {
         let found = load(i, &self.pages);
         let equal = is_equal(i.half, found, &self.gprs);
@@ -207,6 +184,7 @@ impl Machine {
         exchange_registers(i, found, &mut self.gprs);
         self.flags.zf = equal;
         self.move_on(i.next);
+        Acted::Done
     }
 
     // Performs an instruction whose operands are found and whose accesses can be made.
@@ -214,11 +192,7 @@ impl Machine {
         requires fits { InstructionFits i.now }
         requires ready { walk (table_of self.old.pages) (accesses_of i.now) ≡ None }
         requires room { self.old.steps < 2 ^ 64 - 1 }
-        ensures after { (w : Swap) → after_of result self.new w
-            ≡ completed i.now (outcome_in i.now (state_of self.old w)) (state_of self.old w) }
-        ensures own { (slot : ℕ) → result ≡ Acted.Need slot → ⊥ }
-        ensures pages { KeepsTable self.old.pages self.new.pages }
-        ensures counted { self.new.steps ≡ steps_after result self.old.steps }
+        ensures { IsLeft self.old self.new result (plain_effect i.now) }
     {
         let usage = destination_use(i.op);
         let a = old_value(usage, i.destination, i.size, &self.gprs, &self.pages);
@@ -230,7 +204,7 @@ impl Machine {
     }
 
     // Puts what comes of an instruction to its places.
-    #[tactic(auto, unfolding(crate::specs::Act::gprs_left, crate::specs::Act::byte_left))]
+    #[tactic(auto, unfolding(crate::specs::Plain::gprs_left, crate::specs::Plain::byte_left))]
     fn leave(&mut self, i: &Instruction, o: &Outcome)
         requires fits { InstructionFits i.now }
         requires ready { walk (table_of self.old.pages) (accesses_of i.now) ≡ None }

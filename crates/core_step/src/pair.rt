@@ -5,7 +5,7 @@ ghost use Rattle.guest_pages.specs.Table.{blocked};
 ghost use Rattle.guest_pages.specs.Pages.{table_of, byte_of};
 ghost use Rattle.guest_pages.specs.Changes.{KeepsTable};
 ghost use Rattle.core_step.specs.Size.{bits_in, bytes_in, cut};
-ghost use Rattle.core_step.specs.Pair.{half_in, pair_bytes, is_misaligned as is_misaligned_by, joined as joined_of, pair_at, is_equal as is_equal_by, pair_loaded, pair_stored, gprs_exchanged, byte_exchanged};
+ghost use Rattle.core_step.specs.Pair.{half_in, pair_bytes, joined as joined_of, pair_at, is_equal as is_equal_by, pair_loaded, pair_stored, gprs_exchanged, byte_exchanged};
 
 use crate::kinds::{Operand, PairPlan, Size};
 use crate::values::set_register;
@@ -32,13 +32,6 @@ pub(crate) fn pair_len(i: &PairPlan) -> usize
     ensures most { result ≤ 16 }
 {
     2 * i.half.bytes() as usize
-}
-
-/// Whether sixteen bytes don't lie at a multiple of 16.
-pub(crate) fn is_misaligned(i: &PairPlan) -> bool
-    ensures { result ≡ is_misaligned_by i.now }
-{
-    i.half == Size::Quad && i.addr % 16 != 0
 }
 
 /// The low parts of two numbers as one number.

@@ -21,7 +21,7 @@ use row_table::{CoreOp, Decoded, Op, Row, StringOp};
 
 impl Machine {
     // What addresses are made of.
-    fn bases(&self, op: Op, size: Size, next: u64) -> Bases
+    pub(crate) fn bases(&self, op: Op, size: Size, next: u64) -> Bases
         ensures { result ≡ record { rsp = rsp_for op size self.now.gprs; next = next; fs = self.now.fs; gs = self.now.gs } }
     {
         Bases {

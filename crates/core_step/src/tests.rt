@@ -1,6 +1,6 @@
 mod processor;
 
-use crate::{Acted, Fault, Fetched, Fetcher, Flags, Gprs, Machine, Pages, Perms};
+use crate::{Acted, Fault, FetchCache, Fetched, Flags, Gprs, Machine, Pages, Perms};
 use machine_state::Kind;
 use processor::{Row, State};
 use std::alloc::Global;
@@ -340,16 +340,16 @@ fn a_loop_is_called_and_returns(rt: HostRuntime) -> Result<(), Fail> {
     Ok(())
 }
 
-// mov al, n, where n is written anew before each step, by a fetcher that keeps what came of fetches
+// mov al, n, where n is written anew before each step, by a cache of fetches
 #[test]
 fn changed_code_is_fetched_anew(rt: HostRuntime) -> Result<(), Fail> {
     let mut m = machine(&rt, rt.alloc(), &[0xB0, 0])?;
-    let mut fetcher = Fetcher::new(rt.alloc())?;
+    let mut cache = FetchCache::new(rt.alloc())?;
     for number in [5, 6, 6, 7] {
         m.rip = CODE + 0x100;
         assert_eq!(rt; m.pages.write(CODE + 0x101, &[number]), Ok(()));
         assert!(rt; m.steps < 100);
-        match m.fetch_by(&mut fetcher) {
+        match m.fetch_by(&mut cache) {
             Fetched::Instr(d, len) => assert_eq!(rt; m.perform(d, *len), Acted::Done),
             _ => panic!(rt; "no instruction"),
         }

@@ -8,7 +8,7 @@ ghost use Rattle.guest_pages.specs.Changes.{KeepsTable, IsWritten};
 ghost use Rattle.core_step.specs.Size.{bytes_in, bits_in};
 ghost use Rattle.core_step.specs.Fits.{OperandFits};
 ghost use Rattle.core_step.specs.Access.{operand_access, kind_of};
-ghost use Rattle.core_step.specs.Act.{register_value as register_value_of, value_of, old_value as old_value_of, number_for as number_for_use, gprs_with, gprs_after, gprs_stacked, byte_after};
+ghost use Rattle.core_step.specs.Plain.{register_value as register_value_of, value_of, old_value as old_value_of, number_for as number_for_use, gprs_with, gprs_after, gprs_stacked, byte_after};
 
 use crate::kinds::{Operand, Size, Use};
 use crate::sizes::with_high_byte;
@@ -31,7 +31,7 @@ pub(crate) fn register_value(operand: Operand, size: Size, gprs: &Gprs) -> u64
 }
 
 /// The number of an operand that can be read.
-#[tactic(auto, unfolding(crate::specs::Act::value_of))]
+#[tactic(auto, unfolding(crate::specs::Plain::value_of))]
 pub(crate) fn value(operand: Operand, size: Size, kind: Kind, gprs: &Gprs, pages: &Pages) -> u64
     requires operand { OperandFits operand }
     requires ready { walk (table_of pages.now) (operand_access kind operand size) ≡ None }

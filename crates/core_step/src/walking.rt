@@ -1,21 +1,23 @@
 //! The access list of an instruction, and why its accesses can't be made, where they can't.
 ghost use Rattle.std.specs.Prelude.{◌≡◌, ◌≤◌, ◌<◌, ◌+◌, ◌++◌, Some, None, MatchResult};
+ghost use Rattle.machine_state.specs.Memory.{Swap};
 ghost use Rattle.arrayvec.specs.ArrayVec.{array_vec_len};
 ghost use Rattle.guest_pages.specs.Pages.{table_of};
-ghost use Rattle.guest_pages.specs.Walk.{walk};
+ghost use Rattle.guest_pages.specs.Walk.{walk as walk_along};
 ghost use Rattle.core_step.specs.Access.{operand_access, kind_of, accesses_of, access_fault, acted_by};
 ghost use Rattle.core_step.specs.Strings.{strings_access};
 ghost use Rattle.core_step.specs.Pair.{pair_access};
 ghost use Rattle.core_step.specs.Plan.{plan_accesses};
+ghost use Rattle.core_step.specs.Machine.{state_of};
 
 use crate::acted::Acted;
 use crate::kinds::{Instruction, Operand, PairPlan, Plan, Size, StringPlan, Use};
+use crate::machine::Machine;
 use crate::operands::destination_use;
-use crate::pair::{is_misaligned, pair_len};
+use crate::pair::pair_len;
 use crate::strings::is_over;
 use arrayvec::ArrayVec;
 use gpr_flags::{Fault, Gprs};
-use guest_pages::Pages;
 use machine_state::{Access, Kind, Miss, Stop};
 use string_unit::{accesses as iteration_accesses, destination_place, source_place};
 
@@ -74,38 +76,38 @@ fn string_accesses(i: &StringPlan, gprs: &Gprs) -> ArrayVec<Access, 2>
 }
 
 /// The access of CMPXCHG8B or CMPXCHG16B.
-#[tactic(auto, unfolding(crate::specs::Pair::pair_access))]
 fn pair_accesses(i: &PairPlan) -> ArrayVec<Access, 2>
     ensures { result.items ≡ pair_access i.now }
 {
     let mut list = ArrayVec::new();
-    if !is_misaligned(i) {
-        list.push(Access {
-            kind: Kind::Write,
-            addr: i.addr,
-            len: pair_len(i) as u64,
-        });
-    }
+    list.push(Access {
+        kind: Kind::Write,
+        addr: i.addr,
+        len: pair_len(i) as u64,
+    });
     list
 }
 
-/// The access list of an instruction.
-fn accesses(plan: &Plan, gprs: &Gprs) -> ArrayVec<Access, 2>
-    ensures { result.items ≡ plan_accesses plan.now gprs.now }
-{
-    match plan {
-        Plan::Plain(i) => operand_accesses(i),
-        Plan::OnStrings(i) => string_accesses(i, gprs),
-        Plan::OnPair(i) => pair_accesses(i),
+impl Machine {
+    // The access list of an instruction.
+    fn accesses(&self, plan: &Plan) -> ArrayVec<Access, 2>
+        ensures { (w : Swap) → result.items ≡ plan_accesses plan.now (state_of self.now w) }
+    {
+        match plan {
+            Plan::Plain(i) => operand_accesses(i),
+            Plan::OnStrings(i) => string_accesses(i, &self.gprs),
+            Plan::OnPair(i) => pair_accesses(i),
+        }
     }
-}
 
-/// Walks the access list of an instruction.
-pub(crate) fn check_all(pages: &Pages, plan: &Plan, gprs: &Gprs) -> Result<(), Stop>
-    ensures { MatchResult result (λ _. walk (table_of pages.now) (plan_accesses plan.now gprs.now) ≡ None)
-        (λ stop. walk (table_of pages.now) (plan_accesses plan.now gprs.now) ≡ Some stop) }
-{
-    pages.check(&accesses(plan, gprs))
+    /// Walks along the access list of an instruction.
+    pub(crate) fn walk(&self, plan: &Plan) -> Result<(), Stop>
+        ensures { (w : Swap) → MatchResult result
+            (λ _. walk_along (table_of self.now.pages) (plan_accesses plan.now (state_of self.now w)) ≡ None)
+            (λ stop. walk_along (table_of self.now.pages) (plan_accesses plan.now (state_of self.now w)) ≡ Some stop) }
+    {
+        self.pages.check(&self.accesses(plan))
+    }
 }
 
 /// The fault of an access.

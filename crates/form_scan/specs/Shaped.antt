@@ -138,9 +138,12 @@ pub record Shaped (bytes : List ℕ) (f : Fields) : Type 0 where
   pub spelled : bytes ≡ front ++ (part ++ (option_to_list modrm ++ (option_to_list sib ++ (disp ++ imm))))
 
 -- ---- what a scan tells
--- an instruction has at most fifteen bytes (Intel SDM volume 2, section 2.3.11)
+-- how many bytes an instruction has at most (Intel SDM volume 2, section 2.3.11)
+abbrev pub most_bytes : ℕ
+most_bytes = 15
+
 unfoldable pub within_limit : List ℕ → List ℕ
-within_limit bytes = take 15 bytes
+within_limit bytes = take most_bytes bytes
 
 unfoldable pub all_bytes : List ℕ → Bool
 all_bytes [] = true

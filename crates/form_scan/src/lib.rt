@@ -10,7 +10,7 @@ mod scanning;
 mod tail;
 
 pub use kinds::Scan;
-pub use scanning::scan;
+pub use scanning::{LIMIT, scan};
 
 #[cfg(test)]
 mod tests;

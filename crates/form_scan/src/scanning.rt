@@ -1,7 +1,7 @@
 //! Which instruction some bytes begin with.
 ghost use Rattle.std.specs.Prelude.{◌≡◌, ◌≤◌, ◌↔◌, ◌++◌, ℕ, List, [], length};
 ghost use Rattle.form_scan.specs.Reading.{Gives, fields_at};
-ghost use Rattle.form_scan.specs.Shaped.{Shaped, IsWhole, IsCut, within_limit};
+ghost use Rattle.form_scan.specs.Shaped.{most_bytes, Shaped, IsWhole, IsCut, within_limit};
 ghost use Rattle.form_scan.specs.Scanning.{scan_of, scanned};
 ghost use Rattle.row_table.specs.declared.kinds.Fields.{Fields as AllFields};
 
@@ -10,8 +10,8 @@ use crate::kinds::{Scan, Stop};
 use crate::tail::read_tail;
 use row_table::Fields;
 
-/// An instruction's bytes at most.
-const LIMIT: usize = 15;
+/// An instruction's bytes at most (Intel SDM volume 2, section 2.3.11).
+pub const LIMIT: usize = 15;
 
 #[tactic(auto, unfolding(crate::specs::Reading::fields_at))]
 fn read_fields(bytes: &[u8]) -> Result<(Fields, &[u8]), Stop>
@@ -24,7 +24,7 @@ fn read_fields(bytes: &[u8]) -> Result<(Fields, &[u8]), Stop>
 
 /// The same as `scan` of at most fifteen bytes.
 fn scan_within(bytes: &[u8]) -> Scan
-    requires { length bytes.now ≤ 15 }
+    requires { length bytes.now ≤ most_bytes }
     ensures whole { (f : AllFields) (n : ℕ) → (result ≡ Scan.Whole f n) ↔ IsWhole bytes.now f n }
     ensures short { (result ≡ Scan.Short) ↔ IsCut bytes.now }
     ensures value { result ≡ scan_of (length bytes.now) (fields_at bytes.now) }
@@ -40,7 +40,7 @@ fn scan_within(bytes: &[u8]) -> Scan
 #[tactic(auto, unfolding(crate::specs::Shaped::within_limit))]
 fn first_bytes(bytes: &[u8]) -> &[u8]
     ensures value { result.now ≡ within_limit bytes.now }
-    ensures limit { length result.now ≤ 15 }
+    ensures limit { length result.now ≤ most_bytes }
 {
     if bytes.len() < LIMIT {
         bytes

@@ -7,7 +7,7 @@ use Rattle.row_table.specs.declared.kinds.Decoded.{Decoded}
 use Rattle.row_table.specs.Rows.{rows}
 use Rattle.form_scan.specs.declared.kinds.Scan.{Scan}
 use Rattle.form_scan.specs.declared.kinds.Scan.TheVariants.{Whole, Short as Cut, Dead}
-use Rattle.form_scan.specs.Shaped.{within_limit, IsWhole, IsCut}
+use Rattle.form_scan.specs.Shaped.{most_bytes, within_limit, IsWhole, IsCut}
 use Rattle.form_scan.specs.Scanning.{scanned}
 use Rattle.legacy_decode.specs.Spelling.{IsLegacyDecoded, spelled}
 use Rattle.x_decode.specs.declared.kinds.Seen.{Seen}
@@ -31,12 +31,12 @@ pub record IsInstr (bytes : List ℕ) (d : Decoded) (n : ℕ) : Type 0 where
 
 -- the bytes are fewer than fifteen, and an instruction's first ones but not all of it
 pub record IsShort (bytes : List ℕ) : Type 0 where
-  pub few : length bytes < 15
+  pub few : length bytes < most_bytes
   pub cut : IsCut bytes
 
 -- the first fifteen bytes are an instruction's first ones but not all of it
 pub record IsTooLong (bytes : List ℕ) : Type 0 where
-  pub enough : 15 ≤ length bytes
+  pub enough : most_bytes ≤ length bytes
   pub cut : IsCut (within_limit bytes)
 
 -- none of these
@@ -48,7 +48,7 @@ pub record IsBad (bytes : List ℕ) : Type 0 where
 -- where an instruction is seen, its row is in the table, and it has at least one byte, and some of the first
 -- fifteen
 abbrev pub InRange : List ℕ → Seen → Type 0
-InRange bytes (Instr d n) = (d.row < length rows) × (1 ≤ n) × (n ≤ length bytes) × (n ≤ 15)
+InRange bytes (Instr d n) = (d.row < length rows) × (1 ≤ n) × (n ≤ length bytes) × (n ≤ most_bytes)
 InRange bytes Short = ⊤
 InRange bytes TooLong = ⊤
 InRange bytes Bad = ⊤
@@ -68,7 +68,7 @@ seen_whole n (Some d) = Instr d n
 -- of so many bytes, by what a scan of them answers
 abbrev pub seen_of : ℕ → Scan → Seen
 seen_of count (Whole f n) = seen_whole n (spelled_in f.class f)
-seen_of count Cut = if nat_lt count 15 then Short else TooLong
+seen_of count Cut = if nat_lt count most_bytes then Short else TooLong
 seen_of count Dead = Bad
 
 -- what the bytes begin with, of which the first fifteen count (Intel SDM volume 2, section 2.3.11)

@@ -5,12 +5,9 @@ ghost use Rattle.row_table.specs.Rows.{rows};
 ghost use Rattle.x_decode.specs.Seeing.{IsDecoded, IsSeen, spelled_in};
 
 use crate::kinds::Seen;
-use form_scan::{Scan, scan};
+use form_scan::{LIMIT, Scan, scan};
 use legacy_decode::match_legacy;
 use row_table::{Class, Decoded, Fields};
-
-/// An instruction's bytes at most (Intel SDM volume 2, section 2.3.11).
-pub const LIMIT: usize = 15;
 
 /// The instruction with these fields, by the rules of their class.
 fn matched(fields: &Fields) -> Option<Decoded>

@@ -4,7 +4,8 @@
 mod decoding;
 mod kinds;
 
-pub use decoding::{LIMIT, decode};
+pub use decoding::decode;
+pub use form_scan::LIMIT;
 pub use kinds::Seen;
 
 #[cfg(test)]

@@ -1,6 +1,7 @@
 //! Whole steps, and runs of them.
 ghost use Rattle.std.specs.Prelude.{◌≡◌, ◌<◌, ◌≤◌, ◌+◌, ◌-◌, ◌^◌, Some, is_some};
 ghost use Rattle.guest_pages.specs.Changes.{AllResident};
+ghost use Rattle.form_scan.specs.Shaped.{most_bytes};
 ghost use Rattle.x_decode.specs.Seeing.{IsDecoded};
 ghost use Rattle.core_step.specs.Act.{performed};
 ghost use Rattle.xemu_top.specs.Step.{step, after_part, signal_of as signal_of_fault};
@@ -8,7 +9,7 @@ ghost use Rattle.xemu_top.specs.Following.{FollowsAt, RunsAt, IsCaused, SignalFi
 
 use crate::calls::answer_call;
 use crate::ends::RunEnd;
-use core_step::{Acted, Decoded, Fetched, Fetcher, Machine};
+use core_step::{Acted, Decoded, FetchCache, Fetched, Machine};
 use gpr_flags::Fault;
 use host_edge::{HostCall, Sink};
 use machine_state::GuestEnd;
@@ -45,7 +46,7 @@ fn perform<O: Sink, E: Sink>(
 ) -> Result<Option<GuestEnd>, HostCall>
     requires spells { IsDecoded d.now.fields d.now }
     requires some { 1 ≤ len }
-    requires most { len ≤ 15 }
+    requires most { len ≤ most_bytes }
     requires room { machine.old.steps < 2 ^ 64 - 1 }
     requires resident { AllResident machine.old.pages }
     ensures follows { FollowsAt (λ w. after_part (performed d.now len w.state) w) machine.old machine.new
@@ -72,7 +73,7 @@ fn perform<O: Sink, E: Sink>(
 /// One whole step: an instruction is fetched and performed, or the guest ends by the fault of its fetch.
 fn turn<O: Sink, E: Sink>(
     machine: &mut Machine,
-    fetcher: &mut Fetcher,
+    cache: &mut FetchCache,
     out: &mut O,
     err: &mut E,
 ) -> Result<Option<GuestEnd>, HostCall>
@@ -87,7 +88,7 @@ fn turn<O: Sink, E: Sink>(
     ensures cause { IsCaused (failed_in result) (O.faults out.old) (O.faults out.new) (E.faults err.old) (E.faults err.new) }
     ensures signal { SignalFits result }
 {
-    match machine.fetch_by(fetcher) {
+    match machine.fetch_by(cache) {
         Fetched::Instr(d, len) => perform(machine, d, *len, out, err),
         Fetched::Trap(fault) => Ok(Some(kill(machine, *fault))),
         Fetched::Need(_) => unreachable!(),
@@ -107,7 +108,7 @@ fn run_end(end: GuestEnd) -> RunEnd
 /// Runs until the guest ends or `upto` steps are completed.
 pub(crate) fn run<O: Sink, E: Sink>(
     machine: &mut Machine,
-    fetcher: &mut Fetcher,
+    cache: &mut FetchCache,
     upto: u64,
     out: &mut O,
     err: &mut E,
@@ -122,7 +123,7 @@ pub(crate) fn run<O: Sink, E: Sink>(
     ensures signal { HasRunSignal result }
 {
     while machine.steps < upto {
-        match turn(machine, fetcher, out, err) {
+        match turn(machine, cache, out, err) {
             Ok(None) => {}
             Ok(Some(end)) => return run_end(end),
             Err(call) => return RunEnd::Host(call),

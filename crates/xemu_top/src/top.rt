@@ -9,7 +9,7 @@ ghost use Rattle.xemu_top.specs.Headline.{Meets, MeetsFile, MeetsImage, IsOutsid
 use crate::ends::{End, Ended, ImageFault, RunEnd, WordFault};
 use crate::loading::{Loaded, first_machine, image_fits, load_file};
 use crate::running::run;
-use core_step::{Fetcher, Machine};
+use core_step::{FetchCache, Machine};
 use host_edge::{Host, HostCall, Sink, Source};
 use std::alloc::Global;
 
@@ -96,13 +96,13 @@ fn on_image<O: Sink, E: Sink>(alloc: Global, bytes: &[u8], out: &mut O, err: &mu
     if !image_fits(bytes) {
         return refused(End::Image(NO_IMAGE));
     }
-    let mut fetcher = match Fetcher::new(alloc) {
-        Ok(fetcher) => fetcher,
+    let mut cache = match FetchCache::new(alloc) {
+        Ok(cache) => cache,
         Err(_) => return refused(End::Memory),
     };
     match first_machine(alloc, bytes) {
         Ok(mut machine) => {
-            let end = run(&mut machine, &mut fetcher, BUDGET, out, err);
+            let end = run(&mut machine, &mut cache, BUDGET, out, err);
             finish(end, machine)
         }
         Err(_) => refused(End::Memory),

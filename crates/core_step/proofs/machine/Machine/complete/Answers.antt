@@ -3,13 +3,15 @@ use Rattle.guest_pages.specs.Table.{perms_in}
 use Rattle.guest_pages.specs.Pages.{table_of, byte_of, memory_of}
 use Rattle.guest_pages.specs.Walk.{walk}
 use Rattle.core_step.specs.declared.kinds.Use.{Use}
+use Rattle.core_step.specs.declared.kinds.Outcome.{Outcome}
 use Rattle.core_step.specs.Access.{operand_access, kind_of}
 use Rattle.core_step.specs.Operands.{use_of}
-use Rattle.core_step.specs.Act.{old_value, value_of, register_value, outcome_in}
+use Rattle.core_step.specs.Effect.{left_by}
+use Rattle.core_step.specs.Plain.{old_value, value_of, register_value, effect_by, outcome_in}
 use Rattle.core_step.specs.Result.{outcome_of}
-use Rattle.core_step.specs.Machine.{state_of}
+use Rattle.core_step.specs.Machine.{state_of, processor_in}
 use Rattle.core_step.proofs.Walks.{both-free}
-use Rattle.core_step.proofs.Steps.{after-is}
+use Rattle.core_step.proofs.Steps.{left-is, outcome-own}
 use Rattle.core_step.proofs.machine.Machine.complete.Goals as goal
 
 pub old_value-a-requires-clause-ready : goal.old_value-a-requires-clause-ready
@@ -20,17 +22,27 @@ old_value-a-requires-clause-ready c =
 pub value-b-requires-clause-ready : goal.value-b-requires-clause-ready
 value-b-requires-clause-ready c = (both-free _ _ c.requires.ready).0
 
-pub returns-clause-after : goal.returns-clause-after
+pub returns : goal.returns
 unfolding memory_of
-returns-clause-after c w =
+returns c =
     let old = c.args.self.now in
+    let p = processor_in old in
     let i = c.args.i.now in
-    let a : c.old_value-a.result ≡ old_value (use_of i.op) i.destination i.size old.gprs (byte_of old.pages w) =
-    c.old_value-a.ensures.value w
-    ∙ ap (λ (u : Use). old_value u i.destination i.size old.gprs (byte_of old.pages w)) c.destination_use-usage.ensures in
-    let b : c.value-b.result ≡ value_of i.source i.source_size old.gprs (byte_of old.pages w) = c.value-b.ensures.value w in
-    let third : c.register_value-c.result ≡ register_value i.third i.third_size old.gprs = c.register_value-c.ensures.value in
-    after-is i c.outcome-outcome.result (outcome_in i (state_of old w)) (state_of old w) (state_of c.leave.new.self w)
-    (c.outcome-outcome.ensures.outcome ∙ (λ k. outcome_of i (a k) (b k) (third k) old.flags old.steps)) c.leave.ensures.gprs
-    c.leave.ensures.flags c.leave.ensures.rip refl c.leave.ensures.fs c.leave.ensures.gs c.leave.ensures.steps (ap perms_in c.leave.ensures.pages.table)
-    (c.leave.ensures.byte w)
+    let o = c.outcome-outcome.result in
+    record {
+      after = λ w.
+          let a : c.old_value-a.result ≡ old_value (use_of i.op) i.destination i.size old.gprs (byte_of old.pages w) =
+          c.old_value-a.ensures.value w
+          ∙ ap (λ (u : Use). old_value u i.destination i.size old.gprs (byte_of old.pages w)) c.destination_use-usage.ensures in
+          let b : c.value-b.result ≡ value_of i.source i.source_size old.gprs (byte_of old.pages w) = c.value-b.ensures.value w in
+          let third : c.register_value-c.result ≡ register_value i.third i.third_size old.gprs = c.register_value-c.ensures.value in
+          let same : o ≡ outcome_in i p (byte_of old.pages w) =
+          c.outcome-outcome.ensures.outcome ∙ (λ k. outcome_of i (a k) (b k) (third k) old.flags old.steps) in
+          left-is (effect_by i o p (byte_of old.pages w)) (memory_of old.pages w) o.acted (state_of c.leave.new.self w) refl c.leave.ensures.gprs
+          c.leave.ensures.flags c.leave.ensures.rip refl c.leave.ensures.fs c.leave.ensures.gs c.leave.ensures.steps
+          (ap perms_in c.leave.ensures.pages.table) (c.leave.ensures.byte w)
+          ∙ ap (λ (x : Outcome). left_by (effect_by i x p (byte_of old.pages w)) (memory_of old.pages w)) same;
+      own = outcome-own o.acted o old.flags c.outcome-outcome.ensures.fits;
+      table = c.leave.ensures.pages;
+      counted = c.leave.ensures.steps;
+    }

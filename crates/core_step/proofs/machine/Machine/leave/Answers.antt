@@ -5,7 +5,7 @@ use Rattle.machine_state.specs.declared.kinds.Kind.{Kind}
 use Rattle.core_step.specs.Access.{operand_access}
 use Rattle.core_step.specs.declared.kinds.Use.{Use}
 use Rattle.core_step.specs.Operands.{use_of}
-use Rattle.core_step.specs.Act.{number_for}
+use Rattle.core_step.specs.Plain.{number_for}
 use Rattle.core_step.proofs.Walks.{both-free, written-kind}
 use Rattle.core_step.proofs.machine.Machine.leave.Goals as goal
 

@@ -1,6 +1,7 @@
-use Rattle.std.proofs.Common.{◌≡◌, ◌↔◌, None, Some, Option, true, nat_lt, ◌&&◌, refl, ap, ◌∙◌, sym, subst}
+use Rattle.std.proofs.Common.{◌≡◌, ◌↔◌, Bool, true, false, None, Some, [], Option, nat_lt, ◌&&◌, refl, ap, ◌∙◌, sym, subst}
 use Rattle.std.proofs.lemmas.Bool.{and_parts}
 use borrow.Author.Tests.{ltb-true}
+use Rattle.machine_state.specs.Memory.{Swap}
 use Rattle.machine_state.specs.declared.kinds.Stop.{Stop}
 use Rattle.guest_pages.specs.Pages.{table_of, memory_of}
 use Rattle.guest_pages.specs.Walk.{walk}
@@ -10,13 +11,14 @@ use Rattle.x_decode.proofs.Classes.{decoded-registers, decoded-row}
 use Rattle.core_step.specs.declared.acted.Acted.{Acted}
 use Rattle.core_step.specs.declared.acted.Acted.TheVariants.{Need}
 use Rattle.core_step.specs.declared.kinds.Plan.{Plan}
+use Rattle.core_step.specs.Fits.{RegistersFit}
 use Rattle.core_step.specs.Plan.{plan_accesses}
+use Rattle.core_step.specs.Alignment.{is_misaligned}
 use Rattle.core_step.specs.Machine.{state_of, IsWhole, accesses, needed}
-use Rattle.core_step.proofs.Steps.{accesses-by, performed-stops, performed-passes, whole-stopped, whole-own, stop-needs}
+use Rattle.core_step.proofs.Steps.{performed-misaligned, accesses-misaligned, accesses-aligned, performed-stops, performed-passes, walk-none, whole-stopped, whole-own, stop-needs, own-needs}
 use Rattle.core_step.proofs.Local.{local}
 use Rattle.core_step.proofs.Frame.{framed}
 use Rattle.core_step.proofs.PageCounts.{accesses-touch}
-use Rattle.core_step.specs.Fits.{RegistersFit}
 use Rattle.core_step.proofs.machine.Machine.perform.Goals as goal
 
 -- the registers of an instruction's fields
@@ -26,61 +28,95 @@ fits-from f fit =
     let v = and_parts (nat_lt f.x 2) (nat_lt f.b 2) w.1 in
     record { r = ltb-true f.r 2 w.0; x = ltb-true f.x 2 v.0; b = ltb-true f.b 2 v.1 }
 
-pub row-requires : goal.row-requires
-row-requires c = decoded-row c.args.d.now.fields c.args.d.now c.requires.spells
+pub row-row-requires : goal.row-row-requires
+row-row-requires c = decoded-row c.args.d.now.fields c.args.d.now c.requires.spells
+
+pub is_misaligned-requires : goal.is_misaligned-requires
+is_misaligned-requires c = fits-from c.args.d.now.fields (decoded-registers c.args.d.now.fields c.args.d.now c.requires.spells)
 
 pub plan_for-plan-requires : goal.plan_for-plan-requires
 plan_for-plan-requires c = fits-from c.args.d.now.fields (decoded-registers c.args.d.now.fields c.args.d.now c.requires.spells)
 
+-- ---- alignment is broken
+pub returns-then-is_misaligned-clause-whole : goal.returns-then-is_misaligned-clause-whole
+returns-then-is_misaligned-clause-whole c w =
+    sym (performed-misaligned c.args.d.now c.args.len (state_of c.args.self.now w) c.row-row.result c.row-row.ensures
+    (sym (c.is_misaligned.ensures w) ∙ c.if-is_misaligned.true))
+
+pub returns-then-is_misaligned-clause-need : goal.returns-then-is_misaligned-clause-need
+returns-then-is_misaligned-clause-need c w slot =
+    own-needs _ (table_of c.args.self.now.pages) _ slot (λ e. cc)
+    (ap (walk (table_of c.args.self.now.pages))
+    (accesses-misaligned c.args.d.now c.args.len (state_of c.args.self.now w) c.row-row.result c.row-row.ensures
+    (sym (c.is_misaligned.ensures w) ∙ c.if-is_misaligned.true)) ∙ walk-none (table_of c.args.self.now.pages))
+
+-- ---- an access stops the walk
 pub returns-in-Err-clause-whole : goal.returns-in-Err-clause-whole
 unfolding memory_of
 returns-in-Err-clause-whole c =
     let P : Acted → Type 0 = λ a. IsWhole c.args.d.now c.args.len c.args.self.now c.args.self.now a in
     subst P (sym c.answer.ensures)
     (whole-stopped c.args.d.now c.args.len c.args.self.now c.in-Err.stop.kind c.in-Err.stop.miss
-    (λ w denial. performed-stops c.args.d.now c.args.len (state_of c.args.self.now w) c.row.result c.plan_for-plan.result
-    (table_of c.args.self.now.pages) c.in-Err.stop c.row.ensures (c.plan_for-plan.ensures.is w) refl c.in-Err.ensures denial))
+    (λ w denial. performed-stops c.args.d.now c.args.len (state_of c.args.self.now w) c.row-row.result c.plan_for-plan.result
+    (table_of c.args.self.now.pages) c.in-Err.stop c.row-row.ensures (sym (c.is_misaligned.ensures w) ∙ c.if-is_misaligned.false)
+    (c.plan_for-plan.ensures.is w) refl (c.in-Err.ensures w) denial))
 
 pub returns-in-Err-clause-need : goal.returns-in-Err-clause-need
 returns-in-Err-clause-need c w slot =
-    let walked : walk (table_of c.args.self.now.pages) (accesses c.args.d.now c.args.len (state_of c.args.self.now w)) ≡ Some c.in-Err.stop =
+    let s = state_of c.args.self.now w in
+    let walked : walk (table_of c.args.self.now.pages) (accesses c.args.d.now c.args.len s) ≡ Some c.in-Err.stop =
     ap (walk (table_of c.args.self.now.pages))
-    (accesses-by _ _ _ c.row.result c.row.ensures ∙ ap (λ (plan : Plan). plan_accesses plan c.args.self.now.gprs) (sym (c.plan_for-plan.ensures.is w))) ∙ c.in-Err.ensures in
+    (accesses-aligned c.args.d.now c.args.len s c.row-row.result c.row-row.ensures (sym (c.is_misaligned.ensures w) ∙ c.if-is_misaligned.false)
+    ∙ ap (λ (plan : Plan). plan_accesses plan s) (sym (c.plan_for-plan.ensures.is w))) ∙ c.in-Err.ensures w in
     let P : Option Stop → Type 0 = λ stop. (c.answer.result ≡ Need slot) ↔ (needed stop ≡ Some slot) in
     let Q : Acted → Type 0 = λ a. (a ≡ Need slot) ↔ (needed (Some c.in-Err.stop) ≡ Some slot) in
     subst P (sym walked) (subst Q (sym c.answer.ensures) (stop-needs c.in-Err.stop.kind c.in-Err.stop.miss slot))
+
+-- ---- the accesses can be made
+pub finish-requires-clause-ready : goal.finish-requires-clause-ready
+finish-requires-clause-ready c w = c.in-Ok.ensures w
 
 pub returns-in-Ok-clause-whole : goal.returns-in-Ok-clause-whole
 unfolding memory_of
 returns-in-Ok-clause-whole c =
     whole-own c.args.d.now c.args.len c.args.self.now c.finish.new.self c.finish.result c.finish.ensures.own
     (λ w. c.finish.ensures.after w
-    ∙ sym (performed-passes c.args.d.now c.args.len (state_of c.args.self.now w) c.row.result c.plan_for-plan.result
-    (table_of c.args.self.now.pages) c.row.ensures (c.plan_for-plan.ensures.is w) refl c.in-Ok.ensures))
+    ∙ sym (performed-passes c.args.d.now c.args.len (state_of c.args.self.now w) c.row-row.result c.plan_for-plan.result
+    (table_of c.args.self.now.pages) c.row-row.ensures (sym (c.is_misaligned.ensures w) ∙ c.if-is_misaligned.false)
+    (c.plan_for-plan.ensures.is w) refl (c.in-Ok.ensures w)))
 
 pub returns-in-Ok-clause-need : goal.returns-in-Ok-clause-need
 returns-in-Ok-clause-need c w slot =
-    let walked : walk (table_of c.args.self.now.pages) (accesses c.args.d.now c.args.len (state_of c.args.self.now w)) ≡ None =
-    ap (walk (table_of c.args.self.now.pages))
-    (accesses-by _ _ _ c.row.result c.row.ensures ∙ ap (λ (plan : Plan). plan_accesses plan c.args.self.now.gprs) (sym (c.plan_for-plan.ensures.is w))) ∙ c.in-Ok.ensures in (
-      λ e. absurd (c.finish.ensures.own slot e),
-      λ e. absurd (let none : None ≡ Some slot = ap needed (sym walked) ∙ e in cc),
-    )
+    let s = state_of c.args.self.now w in
+    own-needs _ (table_of c.args.self.now.pages) _ slot (c.finish.ensures.own slot)
+    (ap (walk (table_of c.args.self.now.pages))
+    (accesses-aligned c.args.d.now c.args.len s c.row-row.result c.row-row.ensures (sym (c.is_misaligned.ensures w) ∙ c.if-is_misaligned.false)
+    ∙ ap (λ (plan : Plan). plan_accesses plan s) (sym (c.plan_for-plan.ensures.is w))) ∙ c.in-Ok.ensures w)
+
+-- ---- what holds of each instruction
+pub returns-then-is_misaligned-clause-few : goal.returns-then-is_misaligned-clause-few
+returns-then-is_misaligned-clause-few c w = accesses-touch c.args.d.now c.args.len (state_of c.args.self.now w)
+
+pub returns-then-is_misaligned-clause-local : goal.returns-then-is_misaligned-clause-local
+returns-then-is_misaligned-clause-local c w = local c.args.d.now c.args.len (state_of c.args.self.now w)
+
+pub returns-then-is_misaligned-clause-framed : goal.returns-then-is_misaligned-clause-framed
+returns-then-is_misaligned-clause-framed c w = framed c.args.d.now c.args.len (state_of c.args.self.now w)
 
 pub returns-in-Err-clause-few : goal.returns-in-Err-clause-few
 returns-in-Err-clause-few c w = accesses-touch c.args.d.now c.args.len (state_of c.args.self.now w)
 
-pub returns-in-Ok-clause-few : goal.returns-in-Ok-clause-few
-returns-in-Ok-clause-few c w = accesses-touch c.args.d.now c.args.len (state_of c.args.self.now w)
-
 pub returns-in-Err-clause-local : goal.returns-in-Err-clause-local
 returns-in-Err-clause-local c w = local c.args.d.now c.args.len (state_of c.args.self.now w)
 
-pub returns-in-Ok-clause-local : goal.returns-in-Ok-clause-local
-returns-in-Ok-clause-local c w = local c.args.d.now c.args.len (state_of c.args.self.now w)
-
 pub returns-in-Err-clause-framed : goal.returns-in-Err-clause-framed
 returns-in-Err-clause-framed c w = framed c.args.d.now c.args.len (state_of c.args.self.now w)
+
+pub returns-in-Ok-clause-few : goal.returns-in-Ok-clause-few
+returns-in-Ok-clause-few c w = accesses-touch c.args.d.now c.args.len (state_of c.args.self.now w)
+
+pub returns-in-Ok-clause-local : goal.returns-in-Ok-clause-local
+returns-in-Ok-clause-local c w = local c.args.d.now c.args.len (state_of c.args.self.now w)
 
 pub returns-in-Ok-clause-framed : goal.returns-in-Ok-clause-framed
 returns-in-Ok-clause-framed c w = framed c.args.d.now c.args.len (state_of c.args.self.now w)

@@ -1,22 +1,32 @@
-use Rattle.std.proofs.Common.{refl, ap, ◌∙◌, cond}
+use Rattle.std.proofs.Common.{refl, ap, ◌∙◌, cond, sym, subst}
 use Rattle.guest_pages.specs.Table.{perms_in}
 use Rattle.guest_pages.specs.Pages.{table_of, byte_of, memory_of}
+use Rattle.guest_pages.specs.Changes.{KeepsTable}
 use Rattle.core_step.specs.declared.machine.Machine.{Machine}
-use Rattle.core_step.specs.Strings.{with_count, is_continued, gprs_iterated, flags_iterated, byte_iterated}
-use Rattle.core_step.proofs.Steps.{state-is}
+use Rattle.core_step.specs.declared.acted.Acted.TheVariants.{Done}
+use Rattle.core_step.specs.Strings.{with_count, is_continued, gprs_iterated, flags_iterated, byte_iterated, iterated}
+use Rattle.core_step.specs.Machine.{state_of, processor_in}
+use Rattle.core_step.proofs.Steps.{left-is, done-own}
 use Rattle.core_step.proofs.machine.Machine.repeat.Goals as goal
 
-pub returns-clause-state : goal.returns-clause-state
+pub returns : goal.returns
 unfolding memory_of gprs_iterated flags_iterated byte_iterated
-returns-clause-state c w =
+returns c =
     let i = c.args.i.now in
     let old = c.args.self.now in
-    state-is _ _
-    (ap (λ (m : Machine). m.gprs) c.move_on.ensures ∙ c.lower_count.ensures
-    ∙ (λ k. with_count i (c.count-count.ensures k) (c.iterate_once.ensures.gprs w k)))
-    (ap (λ (m : Machine). m.flags) c.move_on.ensures ∙ c.iterate_once.ensures.flags w)
-    (ap (λ (m : Machine). m.rip) c.move_on.ensures ∙ c.rip_after-rip.ensures
-    ∙ (λ k. cond (is_continued i (c.count-count.ensures k) (c.iterate_once.ensures.flags w k)) old.rip i.next))
-    refl (ap (λ (m : Machine). m.fs) c.move_on.ensures) (ap (λ (m : Machine). m.gs) c.move_on.ensures) (ap (λ (m : Machine). m.steps) c.move_on.ensures)
-    (ap (λ (m : Machine). perms_in (table_of m.pages)) c.move_on.ensures ∙ ap perms_in c.iterate_once.ensures.table.table)
-    (ap (λ (m : Machine). byte_of m.pages w) c.move_on.ensures ∙ c.iterate_once.ensures.byte w)
+    record {
+      after = λ w.
+          left-is (iterated i (processor_in old) (byte_of old.pages w)) (memory_of old.pages w) Done (state_of c.move_on.new.self w) refl
+          (ap (λ (m : Machine). m.gprs) c.move_on.ensures ∙ c.lower_count.ensures
+          ∙ (λ k. with_count i (c.count-count.ensures k) (c.iterate_once.ensures.gprs w k)))
+          (ap (λ (m : Machine). m.flags) c.move_on.ensures ∙ c.iterate_once.ensures.flags w)
+          (ap (λ (m : Machine). m.rip) c.move_on.ensures ∙ c.rip_after-rip.ensures
+          ∙ (λ k. cond (is_continued i (c.count-count.ensures k) (c.iterate_once.ensures.flags w k)) old.rip i.next))
+          refl (ap (λ (m : Machine). m.fs) c.move_on.ensures) (ap (λ (m : Machine). m.gs) c.move_on.ensures)
+          (ap (λ (m : Machine). m.steps) c.move_on.ensures)
+          (ap (λ (m : Machine). perms_in (table_of m.pages)) c.move_on.ensures ∙ ap perms_in c.iterate_once.ensures.table.table)
+          (ap (λ (m : Machine). byte_of m.pages w) c.move_on.ensures ∙ c.iterate_once.ensures.byte w);
+      own = done-own;
+      table = subst (λ (m : Machine). KeepsTable old.pages m.pages) (sym c.move_on.ensures) c.iterate_once.ensures.table;
+      counted = ap (λ (m : Machine). m.steps) c.move_on.ensures;
+    }

@@ -1,5 +1,6 @@
-//! What was fetched before, known by its bytes.
+//! A cache of what was fetched before, known by its bytes.
 ghost use Rattle.std.specs.Prelude.{◌≡◌, ◌<◌, ℕ, length, vec_len, slice_index_or, IfOk};
+ghost use Rattle.form_scan.specs.Shaped.{most_bytes};
 ghost use Rattle.core_step.specs.Fetch.{IsOutcome};
 
 use crate::fetching::{Fetched, fetch_outcome};
@@ -20,7 +21,7 @@ struct Sighting {
 
 impl Sighting {
     fn of(bytes: &[u8]) -> Sighting
-        requires { length bytes.now ≡ LIMIT }
+        requires { length bytes.now ≡ most_bytes }
         ensures bytes { result.bytes ≡ bytes.now }
         ensures fetched { IsOutcome result.bytes result.fetched }
     {
@@ -34,7 +35,7 @@ impl Sighting {
 
     /// Makes it one of these bytes, unless it is one already.
     fn renew(&mut self, bytes: &[u8])
-        requires len { length bytes.now ≡ LIMIT }
+        requires len { length bytes.now ≡ most_bytes }
         requires fetched { IsOutcome self.old.bytes self.old.fetched }
         ensures bytes { self.new.bytes ≡ bytes.now }
         ensures fetched { IsOutcome self.new.bytes self.new.fetched }
@@ -45,16 +46,16 @@ impl Sighting {
     }
 }
 
-/// Keeps what came of fetches, by their bytes, so that an instruction that comes again is only compared. Since it is known by
+/// A cache of what came of fetches, by their bytes, so that an instruction that comes again is only compared. Since it is known by
 /// its bytes, one that was changed in memory is decoded anew. A contract sees how many byte strings are kept.
 #[derive(Drop)]
-pub struct Fetcher {
+pub struct FetchCache {
     kept: Vec<Sighting>,
     /// What came of the last fetch of fewer than fifteen bytes.
     other: Fetched,
 }
 
-impl Model for Fetcher {
+impl Model for FetchCache {
     ghost use Rattle.std.specs.Prelude.{ℕ, vec_len};
     ghost use Rattle.core_step.specs.Kept.{AreKept};
 
@@ -73,13 +74,13 @@ fn copies(alloc: Global, count: usize, one: Sighting) -> Result<Vec<Sighting>, A
     vec![in alloc; one; count]
 }
 
-impl Fetcher {
+impl FetchCache {
     /// Takes all the memory that it will ever have.
-    pub fn new(alloc: Global) -> Result<Fetcher, AllocError>
-        ensures { IfOk result (λ fetcher. fetcher ≡ ROOM) }
+    pub fn new(alloc: Global) -> Result<FetchCache, AllocError>
+        ensures { IfOk result (λ cache. cache ≡ ROOM) }
     {
         let kept = copies(alloc, ROOM, Sighting::of(&[0; LIMIT]))?;
-        Ok(Fetcher {
+        Ok(FetchCache {
             kept,
             other: Fetched::Trap(Fault::General),
         })
@@ -88,7 +89,7 @@ impl Fetcher {
     /// What comes of fifteen bytes that can be executed and stand at the address `at`. The address says where to look for what
     /// came of them before, and nothing more.
     pub(crate) fn recall(&mut self, at: u64, bytes: &[u8]) -> &Fetched
-        requires { length bytes.now ≡ LIMIT }
+        requires { length bytes.now ≡ most_bytes }
         ensures { IsOutcome bytes.now result.now }
     {
         let sighting = &mut self.kept[(at % ROOM as u64) as usize];

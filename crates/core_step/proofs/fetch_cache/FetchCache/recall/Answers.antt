@@ -2,10 +2,10 @@ use Rattle.std.proofs.Common.{ℕ, ◌<◌, ◌%◌, List, length, slice_index_o
 use Rattle.std.proofs.lemmas.Bool.{cases_eq}
 use Rattle.std.proofs.lemmas.List.{get_or-set_other, length-set}
 use Rattle.std.proofs.lemmas.Grind.{get_or-set_at}
-use Rattle.core_step.specs.declared.fetcher.Sighting.{Sighting}
+use Rattle.core_step.specs.declared.fetch_cache.Sighting.{Sighting}
 use Rattle.core_step.specs.Fetch.{IsOutcome}
 use Rattle.core_step.specs.Kept.{AreKept}
-use Rattle.core_step.proofs.fetcher.Fetcher.recall.Goals as goal
+use Rattle.core_step.proofs.fetch_cache.FetchCache.recall.Goals as goal
 
 -- one more sighting is kept, in the place of another
 kept-set : (all : List Sighting) (place : ℕ) (one : Sighting) → AreKept all → IsOutcome one.bytes one.fetched → AreKept (slice_set all place one)

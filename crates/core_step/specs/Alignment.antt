@@ -1,0 +1,27 @@
+-- Where an instruction's operand in memory may stand (SDM volume 1, 14.9; volume 3, 6.15).
+use Rattle.std.specs.Prelude.{ℕ, ◌%◌, ◌==◌, Bool, false, not, ◌&&◌, if◌then◌else◌}
+use Rattle.machine_state.specs.State.{State}
+use Rattle.row_table.specs.declared.kinds.Align.{Align}
+use Rattle.row_table.specs.declared.kinds.Align.TheVariants.{Free, Sixteen, Size}
+use Rattle.row_table.specs.declared.kinds.Row.{Row}
+use Rattle.row_table.specs.declared.kinds.Decoded.{Decoded}
+use Rattle.core_step.specs.Address.{is_memory, address_of}
+use Rattle.core_step.specs.Operands.{row_size, bases_for}
+use Rattle.core_step.specs.Plan.{next_of}
+
+-- how many bytes a vector has, by L (SDM volume 2, 2.3.6 and 2.7.1)
+abbrev pub vector_bytes : (l : ℕ) → ℕ
+vector_bytes l = if l == 0 then 16 else if l == 1 then 32 else 64
+
+-- whether an address isn't the multiple that the row's rule wants
+abbrev pub breaks : Align → (l addr : ℕ) → Bool
+breaks Free l addr = false
+breaks Sixteen l addr = not (addr % 16 == 0)
+breaks Size l addr = not (addr % vector_bytes l == 0)
+
+-- whether ModRM names memory at such an address
+unfoldable pub is_misaligned : Row → Decoded → (len : ℕ) → State → Bool
+is_misaligned row d len s =
+    breaks row.align d.fields.l
+    (address_of d.fields d.disp s.gprs (bases_for row.op (row_size row d.fields) s (next_of len s)))
+    && is_memory d.fields

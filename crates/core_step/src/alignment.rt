@@ -1,0 +1,72 @@
+//! Where an instruction's operand in memory may stand.
+ghost use Rattle.std.specs.Prelude.{◌≡◌, ◌<◌, ◌&&◌};
+ghost use Rattle.machine_state.specs.Memory.{Swap};
+ghost use Rattle.core_step.specs.Operands.{row_size as size_of_row, bases_for};
+ghost use Rattle.core_step.specs.Address.{is_memory as names_memory, address_of};
+ghost use Rattle.core_step.specs.Plan.{next_of};
+ghost use Rattle.core_step.specs.Alignment.{vector_bytes as bytes_of_vector, breaks as breaks_rule, is_misaligned as is_misaligned_by};
+ghost use Rattle.core_step.specs.Fits.{RegistersFit};
+ghost use Rattle.core_step.specs.Machine.{state_of};
+
+use crate::addressing::{address, is_memory};
+use crate::machine::Machine;
+use crate::operands::row_size;
+use row_table::{Align, Decoded, Fields, Row};
+
+// How many bytes a vector has.
+fn vector_bytes(l: u8) -> u64
+    ensures value { result ≡ bytes_of_vector l }
+    ensures some { 0 < result }
+{
+    match l {
+        0 => 16,
+        1 => 32,
+        _ => 64,
+    }
+}
+
+// Whether an address isn't the multiple that a rule wants.
+fn breaks(align: Align, l: u8, addr: u64) -> bool
+    ensures { result ≡ breaks_rule align l addr }
+{
+    match align {
+        Align::Free => false,
+        Align::Sixteen => addr % 16 != 0,
+        Align::Size => addr % vector_bytes(l) != 0,
+    }
+}
+
+// Whether ModRM names memory at such an address.
+fn is_broken(align: Align, fields: &Fields, addr: u64) -> bool
+    ensures { result ≡ (breaks_rule align fields.now.l addr && names_memory fields.now) }
+{
+    breaks(align, fields.l, addr) && is_memory(fields)
+}
+
+impl Machine {
+    // Where ModRM's operand in memory stands.
+    fn operand_address(&self, row: &Row, d: &Decoded, len: u8) -> u64
+        requires { RegistersFit d.now.fields }
+        ensures { (w : Swap) → result ≡ address_of d.now.fields d.now.disp self.now.gprs
+            (bases_for row.now.op (size_of_row row.now d.now.fields) (state_of self.now w) (next_of len (state_of self.now w))) }
+    {
+        let next = self.rip.wrapping_add(len as u64);
+        let bases = self.bases(row.op, row_size(row, &d.fields), next);
+        address(&d.fields, d.disp, &self.gprs, bases)
+    }
+
+    /// Whether ModRM names memory where the row's rule doesn't let it stand.
+    #[tactic(auto, unfolding(crate::specs::Alignment::is_misaligned))]
+    pub(crate) fn is_misaligned(&self, row: &Row, d: &Decoded, len: u8) -> bool
+        requires { RegistersFit d.now.fields }
+        ensures { (w : Swap) → result ≡ is_misaligned_by row.now d.now len (state_of self.now w) }
+    {
+        match row.align {
+            Align::Free => false,
+            Align::Sixteen | Align::Size => {
+                let addr = self.operand_address(row, d, len);
+                is_broken(row.align, &d.fields, addr)
+            }
+        }
+    }
+}
