@@ -6,6 +6,7 @@ import listing
 import stepping
 
 PLACES = stepping.Places(code=0x401000, data=0x402000, instruction=0x401800)
+CHECKS = 0x400800       # where a guest that checks itself goes on (see guest.py)
 RAX, RCX, RDX, RSP, RBP, RSI, RDI = 0, 1, 2, 4, 5, 6, 7
 CF, PF, AF, ZF, SF, DF, OF = 1, 4, 16, 64, 128, 0x400, 0x800
 ESCAPES = {0: b"", 1: b"\x0f", 2: b"\x0f\x38", 3: b"\x0f\x3a"}
@@ -41,8 +42,14 @@ UNDEFINED = {
 }
 
 
+def jump_to_checks(at):
+    """JMP from an address to the checks of a guest."""
+    return b"\xe9" + (CHECKS - at - 5).to_bytes(4, "little", signed=True)
+
+
 @dataclasses.dataclass
 class Draw:
+    """A drawn instruction: its row, its parts, and where it begins. A jump to a guest's checks stands behind it."""
     row: listing.Row
     front: bytes
     modrm: int
@@ -58,6 +65,11 @@ class Draw:
     def size(self):
         """The operand size in bits, by the row or by the prefixes."""
         return self.row.width or (64 if self.wide else 16 if 0x66 in self.front else 32)
+
+    @property
+    def repeats(self):
+        """Whether a string instruction is repeated."""
+        return self.row.op in STRINGS and (0xF2 in self.front or 0xF3 in self.front)
 
     @property
     def count(self):
@@ -304,27 +316,11 @@ class Drawing:
             self.registers[self.modrm & 7 | (self.rex & 1) << 3] = self.code_target()
 
     def finish(self, writable, steps):
-        head = self.front + ESCAPES[self.row.map] + bytes([self.opcode])
-        code = head + self.tail
+        code = self.front + ESCAPES[self.row.map] + bytes([self.row.opcode]) + self.tail
+        jump = jump_to_checks(PLACES.instruction + len(code))
         flags = self.pick.getrandbits(12) & stepping.FLAGS
-        start = stepping.Start(code + landing(len(code)), self.registers, flags, self.put_at, self.put, writable, steps)
+        start = stepping.Start(code + jump, self.registers, flags, self.put_at, self.put, writable, steps)
         return Draw(self.row, self.front, self.modrm, self.immediate, len(code), start)
-
-    @property
-    def opcode(self):
-        return self.row.opcode
-
-
-CHECKS = 0x400800       # where a guest that checks itself goes on (see guest.py)
-
-
-def jump_to_checks(at):
-    """JMP from an address to the checks of a guest."""
-    return b"\xe9" + (CHECKS - at - 5).to_bytes(4, "little", signed=True)
-
-
-def landing(length):
-    return jump_to_checks(PLACES.instruction + length)
 
 
 def processor_features():

@@ -54,11 +54,17 @@ const PUT: usize = 144;
 const CODE: usize = 160;
 const ENDS: usize = 184;
 
-fn data_page(line: &Line) -> [u8; 4096] {
+fn first_page() -> [u8; 4096] {
     let mut page = [0; 4096];
     for k in 0..4096 {
         page[k] = ((k * 7 + 1) % 256) as u8;
     }
+    page
+}
+
+fn data_page(first: &[u8], line: &Line) -> [u8; 4096] {
+    let mut page = [0; 4096];
+    page.copy_from_slice(first);
     let at = line.number(136);
     for k in 0..line.byte(ENDS) as usize {
         let offset = at.wrapping_add(k as u64).wrapping_sub(line.place(1));
@@ -69,13 +75,12 @@ fn data_page(line: &Line) -> [u8; 4096] {
     page
 }
 
-fn code_page(line: &Line) -> [u8; 4096] {
-    let mut page = [0; 4096];
-    let at = (line.place(2) - line.place(0)) as usize;
-    for k in 0..24 {
-        page[at + k] = if k < line.byte(ENDS + 1) as usize { line.byte(CODE + k) } else { 0xCC };
+fn code(line: &Line) -> [u8; 24] {
+    let mut code = [0xCC; 24];
+    for k in 0..line.byte(ENDS + 1) as usize {
+        code[k] = line.byte(CODE + k);
     }
-    page
+    code
 }
 
 fn registers(line: &Line) -> Gprs {
@@ -86,22 +91,30 @@ fn registers(line: &Line) -> Gprs {
     gprs
 }
 
-fn machine(rt: &HostRuntime, line: &Line, page: &[u8]) -> Result<Machine, io::Error> {
-    let writable = line.byte(ENDS + 2) != 0;
-    let mut pages = Pages::new(rt.alloc(), 8, 8)?;
-    let _ = pages.map_page(line.place(0), Perms(7));
-    let _ = pages.map_page(line.place(1), Perms(7));
-    let _ = pages.write(line.place(0), &code_page(line));
-    let _ = pages.write(line.place(1), page);
-    pages.set_perms(line.place(0), Perms(5));
-    pages.set_perms(line.place(1), Perms(if writable { 3 } else { 5 }));
+fn machine(rt: &HostRuntime, line: &Line) -> Result<Machine, io::Error> {
+    let mut pages = Pages::new(rt.alloc(), 2, 2)?;
+    let _ = pages.map_page(line.place(0), Perms(5));
+    let _ = pages.map_page(line.place(1), Perms(5));
     Ok(Machine {
-        gprs: registers(line),
-        flags: Flags::from_word(line.number(128)),
-        rip: line.place(2),
+        gprs: Gprs::new(),
+        flags: Flags::none(),
+        rip: 0,
         pages,
         steps: 0,
     })
+}
+
+fn begin(m: &mut Machine, line: &Line, page: &[u8]) {
+    let writable = line.byte(ENDS + 2) != 0;
+    m.pages.set_perms(line.place(0), Perms(3));
+    m.pages.set_perms(line.place(1), Perms(3));
+    let _ = m.pages.write(line.place(2), &code(line));
+    let _ = m.pages.write(line.place(1), page);
+    m.pages.set_perms(line.place(0), Perms(5));
+    m.pages.set_perms(line.place(1), Perms(if writable { 3 } else { 5 }));
+    m.gprs = registers(line);
+    m.flags = Flags::from_word(line.number(128));
+    m.rip = line.place(2);
 }
 
 fn step(machine: &mut Machine) -> Acted {
@@ -136,10 +149,10 @@ fn ending(acted: Acted) -> (&'static str, u64) {
     }
 }
 
-fn answer(rt: &HostRuntime, line: &Line) -> io::Result<()> {
-    let page = data_page(line);
-    let mut m = machine(rt, line, &page)?;
-    let (how, at) = ending(run(&mut m, line.byte(ENDS + 3)));
+fn answer(rt: &HostRuntime, m: &mut Machine, first: &[u8], line: &Line) -> io::Result<()> {
+    let page = data_page(first, line);
+    begin(m, line, &page);
+    let (how, at) = ending(run(m, line.byte(ENDS + 3)));
     print!(rt; "{how} {at:x} {:x} {:x}", m.rip, m.flags.word())?;
     for n in 0..16 {
         let value = m.gprs.get(n as u8);
@@ -149,19 +162,34 @@ fn answer(rt: &HostRuntime, line: &Line) -> io::Result<()> {
     }
     let mut left = [0; 4096];
     let _ = m.pages.read(line.place(1), &mut left, Kind::Read);
-    for k in 0..4096 {
-        if left[k] != page[k] {
-            let place = line.place(1) + k as u64;
-            print!(rt; " @{place:x}={:x}", left[k])?;
-        }
-    }
+    changes(rt, line.place(1), &page, &left)?;
     println!(rt; "")
 }
 
+fn changes(rt: &HostRuntime, at: u64, page: &[u8], left: &[u8]) -> io::Result<()> {
+    for k in 0..64 {
+        if left[64 * k..64 * k + 64] != page[64 * k..64 * k + 64] {
+            for n in 64 * k..64 * k + 64 {
+                if left[n] != page[n] {
+                    let place = at + n as u64;
+                    print!(rt; " @{place:x}={:x}", left[n])?;
+                }
+            }
+        }
+    }
+    Ok(())
+}
+
 fn main(rt: HostRuntime) -> io::Result<()> {
+    let first = first_page();
+    let mut machines = Vec::new(rt.alloc());
     for line in rt.lines(rt.alloc()) {
-        let line = line?;
-        answer(&rt, &Line { text: line.as_bytes() })?;
+        let text = line?;
+        let line = Line { text: text.as_bytes() };
+        if machines.len() == 0 {
+            machines.push(machine(&rt, &line)?)?;
+        }
+        answer(&rt, &mut machines[0], &first, &line)?;
     }
     Ok(())
 }

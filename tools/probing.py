@@ -1,4 +1,7 @@
 """Runs a small program over the repository's crates, built without a proof in a folder of its own (`rt try`)."""
+import concurrent.futures
+import functools
+import os
 import re
 import shutil
 import subprocess
@@ -24,14 +27,23 @@ def build(root, folder, crates, name, uses, main):
 
 
 def ask(program, lines, answer, most):
-    """What the program says to each line: the lines of its output that match the pattern `answer`, one for each. It is built
-    once, and run on at most so many lines at a time, since what it may print is limited."""
-    cases = program.parent.parent / "cases"
+    """What the program says to each line: the lines of its output that match the pattern `answer`, one for each. It is built once
+    for each processor of this computer, and run on at most so many lines at a time, since what it may print is limited."""
+    share = -(-len(lines) // os.cpu_count())
+    parts = [lines[at:at + share] for at in range(0, len(lines), share)]
+    with concurrent.futures.ThreadPoolExecutor(os.cpu_count()) as pool:
+        answers = list(pool.map(functools.partial(ask_part, program, answer, most), range(len(parts)), parts))
+    return [line for part in answers for line in part]
+
+
+def ask_part(program, answer, most, number, lines):
+    cases = program.parent.parent / f"cases{number}"
     shutil.rmtree(cases, ignore_errors=True)
     cases.mkdir()
     for at in range(0, len(lines), most):
         (cases / f"{at // most:05}").write_text("".join(line + "\n" for line in lines[at:at + most]))
-    run = subprocess.run(["rt", "try", "--seconds", SECONDS, "--cases", str(cases)], cwd=program, capture_output=True, text=True)
+    words = ["rt", "try", "--steps", "1", "--seconds", SECONDS, "--cases", str(cases)]
+    run = subprocess.run(words, cwd=program, capture_output=True, text=True)
     answers = [line for line in run.stdout.splitlines() if re.fullmatch(answer, line)]
     if len(answers) != len(lines):
         sys.exit(f"the program answered {len(answers)} of {len(lines)} lines:\n{(run.stdout + run.stderr)[-3000:]}")
