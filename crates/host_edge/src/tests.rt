@@ -270,7 +270,11 @@ fn a_file_is_read_whole_from_parts(rt: HostRuntime) -> Result<(), Fail> {
     ] {
         let mut into = *b"........";
         let done = read_file(&mut slow(most, fails_at), &mut into[..room]);
-        assert_eq!(rt; done.map_err(|error| error.kind()), want, "{room} {most} {fails_at}");
+        assert_eq!(rt;
+            done.map_err(|error| error.kind()),
+            want,
+            "{room} {most} {fails_at}"
+        );
         assert_eq!(rt; &into, front);
     }
     Ok(())
@@ -302,7 +306,10 @@ fn pages_lie_one_behind_the_other(rt: HostRuntime) -> Result<(), Fail> {
     read_page(&mut file, 1, back.as_mut_slice())?;
     assert_eq!(rt; back.as_slice(), page.as_slice());
     let cut = read_page(&mut file, 2, back.as_mut_slice());
-    assert_eq!(rt; cut.map_err(|error| error.kind()), Err(io::ErrorKind::UnexpectedEof));
+    assert_eq!(rt;
+        cut.map_err(|error| error.kind()),
+        Err(io::ErrorKind::UnexpectedEof)
+    );
     Ok(())
 }
 

@@ -158,7 +158,11 @@ fn write_stream<O: Sink, E: Sink>(
 }
 
 /// The call write.
-fn write<O: Sink, E: Sink>(machine: &mut Machine, out: &mut O, err: &mut E) -> Result<Option<GuestEnd>, HostCall>
+fn write<O: Sink, E: Sink>(
+    machine: &mut Machine,
+    out: &mut O,
+    err: &mut E,
+) -> Result<Option<GuestEnd>, HostCall>
     requires { AllResident machine.old.pages }
     ensures follows { FollowsAt (λ world. goes_on (write_call world)) machine.old machine.new
         (O.taken out.old) (O.taken out.new) (E.taken err.old) (E.taken err.new) result }

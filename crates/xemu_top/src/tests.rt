@@ -292,7 +292,7 @@ fn a_write_goes_over_the_end_of_a_page(rt: HostRuntime) -> Result<(), Fail> {
     let image = two_pages(rt.alloc())?;
     let left = run_command(rt.alloc(), ["run", "hello"], &image, WIDE, WIDE)?;
     assert_eq!(rt; left.ended.end, End::Exit(0));
-    assert_eq!(rt; left.out.bytes(), b"page to page");
+    assert_eq!(rt; left.out.bytes(), "page to page".as_bytes());
     assert_eq!(rt; steps_of(&left.ended), Some(8));
     let narrow = Room {
         bytes: 100,
@@ -300,17 +300,18 @@ fn a_write_goes_over_the_end_of_a_page(rt: HostRuntime) -> Result<(), Fail> {
     };
     let left = run_command(rt.alloc(), ["run", "hello"], &image, narrow, WIDE)?;
     assert_eq!(rt; left.ended.end, End::Host(HostCall::PutOut));
-    assert_eq!(rt; left.out.bytes(), b"page to p");
+    assert_eq!(rt; left.out.bytes(), "page to p".as_bytes());
     Ok(())
 }
 
 #[test]
 fn descriptor_two_is_the_error_output(rt: HostRuntime) -> Result<(), Fail> {
     let image = hello_with(&[(126, 2)]);
-    let fails: &[(u64, usize)] = &[(1, 2)];
+    let none: &[(u64, usize)] = &[];
+    let first: &[(u64, usize)] = &[(1, 2)];
     for (fail, end, status, text) in [
-        (&[], End::Exit(0), 0, "hello\n"),
-        (fails, End::Host(HostCall::PutErr), 74, "he"),
+        (none, End::Exit(0), 0, "hello\n"),
+        (first, End::Host(HostCall::PutErr), 74, "he"),
     ] {
         let err = Room { bytes: 100, fail };
         let left = run_command(rt.alloc(), ["run", "hello"], &image, WIDE, err)?;
