@@ -249,7 +249,7 @@ impl Read for Slow {
     }
 }
 
-fn slow(most: usize, fails_at: u64) -> Slow {
+fn slow_reader(most: usize, fails_at: u64) -> Slow {
     Slow {
         at: 0,
         most,
@@ -269,7 +269,7 @@ fn a_file_is_read_whole_from_parts(rt: HostRuntime) -> Result<(), Fail> {
         (6, 6, 2, Err(io::ErrorKind::Other), b"abcdef.."),
     ] {
         let mut into = *b"........";
-        let done = read_file(&mut slow(most, fails_at), &mut into[..room]);
+        let done = read_file(&mut slow_reader(most, fails_at), &mut into[..room]);
         assert_eq!(rt;
             done.map_err(|error| error.kind()),
             want,
@@ -288,7 +288,7 @@ fn a_buffer_is_filled_from_parts_or_not_at_all(rt: HostRuntime) -> Result<(), Fa
         (7, 0, Err(io::ErrorKind::UnexpectedEof)),
     ] {
         let mut into = *b"........";
-        let done = fill(&mut slow(3, fails_at), &mut into[..room]);
+        let done = fill(&mut slow_reader(3, fails_at), &mut into[..room]);
         assert_eq!(rt; done.map_err(|error| error.kind()), want, "{room}");
     }
     Ok(())
