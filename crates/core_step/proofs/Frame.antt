@@ -1,12 +1,12 @@
 -- An instruction writes within its accesses alone.
-use Rattle.std.proofs.Common.{◌≡◌, ℕ, ◌+◌, ◌*◌, ◌%◌, ◌^◌, ◌<◌, ◌≤◌, ◌⊎◌, Bool, true, false, cond, List, [], ◌∷◌, Option, Some, None, refl, sym, ap, ◌∙◌, slice_get, length}
+use Rattle.std.proofs.Common.{◌≡◌, ℕ, ◌+◌, ◌*◌, ◌%◌, ◌^◌, ◌<◌, ◌≤◌, ◌⊎◌, Bool, true, false, cond, List, [], ◌∷◌, Option, Some, None, refl, sym, slice_get, length}
 use Rattle.std.specs.List.{All}
 use Rattle.std.proofs.lemmas.List.Elements.{All-head, All-tail, All-weaker}
 use Rattle.byteorder.specs.Numbers.{length-bytes_low_first}
 use Rattle.machine_state.specs.declared.kinds.Kind.TheVariants.{Write}
 use Rattle.gpr_flags.specs.declared.kinds.Fault.{Fault}
 use Rattle.gpr_flags.specs.declared.kinds.Fault.TheVariants.{General}
-use Rattle.machine_state.specs.Memory.{Memory, bytes_at, number_bytes}
+use Rattle.machine_state.specs.Memory.{bytes_at, number_bytes}
 use Rattle.machine_state.specs.State.{State}
 use Rattle.machine_state.proofs.MemoryLemmas.{length-bytes_at}
 use Rattle.row_table.specs.declared.kinds.Row.{Row}
@@ -36,7 +36,7 @@ use Rattle.core_step.specs.Strings.{is_over, source_of, destination_of, strings_
 use Rattle.core_step.specs.Pair.{pair_bytes, pair_write, is_equal, pair_at, pair_stored, byte_exchanged, pair_effect}
 use Rattle.core_step.specs.Plan.{plan_of, plan_accesses, effect_of}
 use Rattle.core_step.specs.Alignment.{is_misaligned}
-use Rattle.core_step.specs.Act.{trapped, carried_out, unless, performed_along, performed_as, performed_row, performed}
+use Rattle.core_step.specs.Act.{trapped, carried_out, unless, performed_as, performed_row, performed}
 use Rattle.core_step.specs.Machine.{accesses, accesses_by, AgreeOn, SparesByte, IsFramed}
 use Rattle.core_step.proofs.Parts.{All-destination}
 use Rattle.core_step.proofs.Seeing.{agree-seen, seen_memory, written_outside, put_in-spared, put_in-is, HasAt}

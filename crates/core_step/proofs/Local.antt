@@ -42,7 +42,7 @@ use Rattle.core_step.specs.Access.{operand_access, kind_of, accesses_of, first_f
 use Rattle.core_step.specs.Effect.{Processor, Effect, processor_of, seen_in, after_effect}
 use Rattle.core_step.specs.Result.{outcome_of}
 use Rattle.core_step.specs.Plain.{register_value, value_of, old_value, byte_after, byte_left, destination_number, effect_by, outcome_in, plain_effect}
-use Rattle.core_step.specs.Strings.{strings_of, count_in, is_over, source_of, destination_of, strings_access, with_count, is_continued, gprs_iterated, flags_iterated, byte_iterated, iterated, passed_over, strings_effect}
+use Rattle.core_step.specs.Strings.{strings_of, count_in, is_over, source_of, destination_of, strings_access, with_count, is_continued, gprs_iterated, flags_iterated, byte_iterated, iterated, passed_over}
 use Rattle.core_step.specs.Pair.{pair_of, pair_write, is_equal, pair_at, pair_stored, byte_exchanged, exchanged, pair_effect}
 use Rattle.core_step.specs.Plan.{next_of, core_plan, plan_by, plan_of, plan_accesses, effect_of}
 use Rattle.core_step.specs.Alignment.{is_misaligned}

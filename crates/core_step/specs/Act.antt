@@ -7,7 +7,6 @@ use Rattle.machine_state.specs.State.{State}
 use Rattle.row_table.specs.declared.kinds.Row.{Row}
 use Rattle.row_table.specs.declared.kinds.Decoded.{Decoded}
 use Rattle.row_table.specs.Rows.{rows}
-use Rattle.core_step.specs.declared.acted.Acted.{Acted}
 use Rattle.core_step.specs.declared.acted.Acted.TheVariants.{Trap, Need}
 use Rattle.core_step.specs.declared.fetching.Fetched.{Fetched}
 use Rattle.core_step.specs.declared.fetching.Fetched.TheVariants.{Instr, Trap as Faults, Need as Needs}

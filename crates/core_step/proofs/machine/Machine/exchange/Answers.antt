@@ -1,4 +1,4 @@
-use Rattle.std.proofs.Common.{◌≡◌, ℕ, Bool, refl, ap, ◌∙◌, sym, subst}
+use Rattle.std.proofs.Common.{ℕ, Bool, refl, ap, ◌∙◌, sym, subst}
 use Rattle.guest_pages.specs.Table.{perms_in}
 use Rattle.guest_pages.specs.Pages.{table_of, byte_of, memory_of}
 use Rattle.guest_pages.specs.Changes.{KeepsTable}

@@ -1,5 +1,4 @@
-use Rattle.std.proofs.Common.{◌≡◌, None, [], subst, sym, refl}
-use Rattle.machine_state.specs.Memory.{Swap}
+use Rattle.std.proofs.Common.{◌≡◌, None, [], subst}
 use Rattle.guest_pages.specs.Pages.{table_of}
 use Rattle.guest_pages.specs.Walk.{walk}
 use Rattle.core_step.specs.declared.kinds.Plan.{Plan}

@@ -1,7 +1,6 @@
-use Rattle.std.proofs.Common.{◌≡◌, ◌↔◌, Bool, true, false, None, Some, [], Option, nat_lt, ◌&&◌, refl, ap, ◌∙◌, sym, subst}
+use Rattle.std.proofs.Common.{◌≡◌, ◌↔◌, true, Some, Option, nat_lt, ◌&&◌, refl, ap, ◌∙◌, sym, subst}
 use Rattle.std.proofs.lemmas.Bool.{and_parts}
 use borrow.Author.Tests.{ltb-true}
-use Rattle.machine_state.specs.Memory.{Swap}
 use Rattle.machine_state.specs.declared.kinds.Stop.{Stop}
 use Rattle.guest_pages.specs.Pages.{table_of, memory_of}
 use Rattle.guest_pages.specs.Walk.{walk}
@@ -13,7 +12,6 @@ use Rattle.core_step.specs.declared.acted.Acted.TheVariants.{Need}
 use Rattle.core_step.specs.declared.kinds.Plan.{Plan}
 use Rattle.core_step.specs.Fits.{RegistersFit}
 use Rattle.core_step.specs.Plan.{plan_accesses}
-use Rattle.core_step.specs.Alignment.{is_misaligned}
 use Rattle.core_step.specs.Machine.{state_of, IsWhole, accesses, needed}
 use Rattle.core_step.proofs.Steps.{performed-misaligned, accesses-misaligned, accesses-aligned, performed-stops, performed-passes, walk-none, whole-stopped, whole-own, stop-needs, own-needs}
 use Rattle.core_step.proofs.Local.{local}
