@@ -10,8 +10,7 @@ use Rattle.machine_state.specs.State.{State}
 use Rattle.machine_state.specs.declared.kinds.Access.{Access}
 use Rattle.machine_state.specs.declared.kinds.Stop.{Stop}
 use Rattle.guest_pages.specs.Table.{Table, perms_in, first_away}
-use Rattle.guest_pages.specs.Pages.{PagesValue, byte_of, memory_of}
-use Rattle.guest_pages.specs.Changes.{KeepsTable}
+use Rattle.guest_pages.specs.Pages.{byte_of, memory_of}
 use Rattle.guest_pages.specs.Walk.{stop_or, walk}
 use Rattle.guest_pages.proofs.Walks.{first_away-away}
 use Rattle.row_table.specs.declared.kinds.Row.{Row}
@@ -170,10 +169,6 @@ pub own-needs : (acted : Acted) (table : Table) (xs : List Access) (slot : ℕ) 
 own-needs acted table xs slot own none = (λ e. absurd (own e), λ e. absurd (let clash : None ≡ Some slot = ap needed (sym none) ∙ e in cc))
 
 -- ---- what an instruction leaves
--- pages that stay keep their table
-pub keeps-itself : (pages : PagesValue) → KeepsTable pages pages
-keeps-itself pages = record { size = record { frames = refl; pages = refl }; table = refl; count = refl }
-
 -- what is done needs no page
 pub done-own : (slot : ℕ) → ◌≡◌ {A = Acted} Done (Need slot) → ⊥
 done-own slot e = cc

@@ -6,7 +6,8 @@ use Rattle.core_step.specs.declared.machine.Machine.{Machine}
 use Rattle.core_step.specs.declared.acted.Acted.TheVariants.{Done}
 use Rattle.core_step.specs.Strings.{passed_over}
 use Rattle.core_step.specs.Machine.{state_of, processor_in}
-use Rattle.core_step.proofs.Steps.{left-is, left-strings, done-own, keeps-itself}
+use Rattle.guest_pages.proofs.Carries.{keeps_same}
+use Rattle.core_step.proofs.Steps.{left-is, left-strings, done-own}
 use Rattle.core_step.proofs.machine.Machine.pass_strings.Goals as goal
 
 -- nothing is done
@@ -23,7 +24,7 @@ returns-then-is_over c =
           (ap (λ (m : Machine). m.gs) c.move_on.ensures) (ap (λ (m : Machine). m.steps) c.move_on.ensures)
           (ap (λ (m : Machine). perms_in (table_of m.pages)) c.move_on.ensures) (ap (λ (m : Machine). byte_of m.pages w) c.move_on.ensures);
       own = done-own;
-      table = subst (λ (m : Machine). KeepsTable old.pages m.pages) (sym c.move_on.ensures) (keeps-itself old.pages);
+      table = subst (λ (m : Machine). KeepsTable old.pages m.pages) (sym c.move_on.ensures) (keeps_same old.pages);
       counted = ap (λ (m : Machine). m.steps) c.move_on.ensures;
     })
 
