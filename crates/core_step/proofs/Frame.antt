@@ -28,7 +28,6 @@ use Rattle.core_step.specs.declared.kinds.Plan.{Plan}
 use Rattle.core_step.specs.declared.kinds.Plan.TheVariants.{Plain, OnStrings, OnPair}
 use Rattle.machine_state.specs.declared.kinds.Access.{Access}
 use Rattle.core_step.specs.Size.{bytes_in}
-use Rattle.core_step.specs.Operands.{use_of}
 use Rattle.core_step.specs.Access.{operand_access, kind_of, accesses_of, first_fault}
 use Rattle.core_step.specs.Effect.{Processor, Effect, processor_of, seen_in, put_in, left_by}
 use Rattle.core_step.specs.Plain.{number_for, byte_after, byte_left, outcome_in}
@@ -76,7 +75,7 @@ byte_left-spared : (i : Instruction) (o : Outcome) (byte : ℕ → ℕ) (at : �
     → byte_left i o byte at ≡ byte at
 unfolding byte_left
 byte_left-spared i o byte at spared =
-    number_for-spared (use_of i.op) i.destination i.size o.destination byte at (All-destination (SparesByte at) i spared)
+    number_for-spared i.usage i.destination i.size o.destination byte at (All-destination (SparesByte at) i spared)
 
 -- ---- strings
 -- an iteration changes no byte but those of its accesses

@@ -37,7 +37,7 @@ use Rattle.core_step.specs.declared.kinds.Plan.{Plan}
 use Rattle.core_step.specs.declared.kinds.Plan.TheVariants.{Plain, OnStrings, OnPair}
 use Rattle.machine_state.specs.declared.kinds.Access.{Access}
 use Rattle.core_step.specs.Size.{bytes_in}
-use Rattle.core_step.specs.Operands.{use_of, instruction_of, instruction_as, destination_in, source_in, third_in}
+use Rattle.core_step.specs.Operands.{instruction_of, instruction_by}
 use Rattle.core_step.specs.Access.{operand_access, kind_of, accesses_of, first_fault, fault_or}
 use Rattle.core_step.specs.Effect.{Processor, Effect, processor_of, seen_in, after_effect}
 use Rattle.core_step.specs.Result.{outcome_of}
@@ -145,10 +145,10 @@ outcome_same : (i : Instruction) (p : Processor) (memory other : Memory) → All
     → outcome_in i p memory.byte ≡ outcome_in i p other.byte
 outcome_same i p memory other agree =
     ap (λ (a : ℕ).
-    outcome_of i a (value_of i.source i.source_size p.gprs memory.byte) (register_value i.third i.third_size p.gprs) p.flags p.steps)
-    (old_value_same (use_of i.op) i.destination i.size p.gprs memory other (All-destination (AgreeOn memory other) i agree))
+    outcome_of i a (value_of i.source i.source_size p.gprs memory.byte) (register_value i.beside i.beside_size p.gprs) p.flags p.steps)
+    (old_value_same i.usage i.destination i.size p.gprs memory other (All-destination (AgreeOn memory other) i agree))
     ∙ ap (λ (b : ℕ).
-    outcome_of i (old_value (use_of i.op) i.destination i.size p.gprs other.byte) b (register_value i.third i.third_size p.gprs)
+    outcome_of i (old_value i.usage i.destination i.size p.gprs other.byte) b (register_value i.beside i.beside_size p.gprs)
     p.flags p.steps)
     (value_of_same Read i.source i.source_size p.gprs memory other (All-source (AgreeOn memory other) i agree))
 
@@ -303,7 +303,7 @@ along-same xs plan s other agree =
 -- ---- the plan of an instruction doesn't depend on memory
 instruction_same : (row : Row) (d : Decoded) (len : ℕ) (s : State) (other : Memory)
     → instruction_of row d len (with_memory s other) ≡ instruction_of row d len s
-unfolding instruction_of instruction_as destination_in source_in third_in
+unfolding instruction_of instruction_by
 instruction_same row d len s other = refl
 
 pair_of_same : (row : Row) (d : Decoded) (next : ℕ) (s : State) (other : Memory)

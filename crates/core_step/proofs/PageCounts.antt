@@ -21,7 +21,6 @@ use Rattle.core_step.specs.declared.kinds.PairPlan.{PairPlan}
 use Rattle.core_step.specs.declared.kinds.Plan.{Plan}
 use Rattle.core_step.specs.declared.kinds.Plan.TheVariants.{Plain, OnStrings, OnPair}
 use Rattle.core_step.specs.Size.{bytes_in}
-use Rattle.core_step.specs.Operands.{use_of}
 use Rattle.core_step.specs.Access.{operand_access, kind_of, accesses_of}
 use Rattle.core_step.specs.Strings.{is_over, source_of, destination_of, strings_access}
 use Rattle.core_step.specs.Pair.{pair_write}
@@ -102,7 +101,7 @@ operand-few kind (Number number) size = few-none 1
 
 plain-few : (i : Instruction) → AreFew 2 (accesses_of i)
 unfolding accesses_of
-plain-few i = few-append 1 1 _ _ (operand-few _ i.source i.source_size) (operand-few (kind_of (use_of i.op)) i.destination i.size)
+plain-few i = few-append 1 1 _ _ (operand-few _ i.source i.source_size) (operand-few (kind_of i.usage) i.destination i.size)
 
 iteration-few : (op : StringOp) (size source destination : ℕ) → size ≤ 8 → AreFew 2 (string_accesses op size source destination)
 unfolding string_accesses

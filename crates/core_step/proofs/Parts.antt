@@ -5,7 +5,6 @@ use Rattle.std.proofs.lemmas.List.Elements.{All-nil, All-cons, All-head, All-tai
 use Rattle.machine_state.specs.declared.kinds.Kind.TheVariants.{Read}
 use Rattle.core_step.specs.declared.kinds.Instruction.{Instruction}
 use Rattle.machine_state.specs.declared.kinds.Access.{Access}
-use Rattle.core_step.specs.Operands.{use_of}
 use Rattle.core_step.specs.Access.{operand_access, kind_of, accesses_of}
 
 -- what holds of each of two lists' elements holds of the first's
@@ -22,11 +21,11 @@ All_behind P (x ∷ xs) ys all = All_behind P xs ys (All-tail P x (xs ++ ys) all
 pub All-source : (P : Access → Type 0) (i : Instruction) → All P (accesses_of i) → All P (operand_access Read i.source i.source_size)
 unfolding accesses_of
 All-source P i all =
-    All_before P (operand_access Read i.source i.source_size) (operand_access (kind_of (use_of i.op)) i.destination i.size) all
+    All_before P (operand_access Read i.source i.source_size) (operand_access (kind_of i.usage) i.destination i.size) all
 
 -- the accesses of an instruction's destination
 pub All-destination : (P : Access → Type 0) (i : Instruction) → All P (accesses_of i)
-    → All P (operand_access (kind_of (use_of i.op)) i.destination i.size)
+    → All P (operand_access (kind_of i.usage) i.destination i.size)
 unfolding accesses_of
 All-destination P i all =
-    All_behind P (operand_access Read i.source i.source_size) (operand_access (kind_of (use_of i.op)) i.destination i.size) all
+    All_behind P (operand_access Read i.source i.source_size) (operand_access (kind_of i.usage) i.destination i.size) all

@@ -13,7 +13,6 @@ use Rattle.core_step.specs.declared.kinds.Use.TheVariants.{Read as Reads, Write 
 use Rattle.core_step.specs.declared.kinds.Instruction.{Instruction}
 use Rattle.core_step.specs.declared.kinds.PairPlan.{PairPlan}
 use Rattle.core_step.specs.Size.{bytes_in}
-use Rattle.core_step.specs.Operands.{use_of}
 use Rattle.core_step.specs.Access.{operand_access, kind_of, accesses_of}
 use Rattle.core_step.specs.Pair.{pair_bytes, pair_write, pair_access}
 use Rattle.core_step.specs.Plain.{number_for}
@@ -28,12 +27,12 @@ abbrev pub source_walk : Table → Instruction → Option Stop
 source_walk table i = walk table (operand_access Read i.source i.source_size)
 
 abbrev pub destination_walk : Table → Instruction → Option Stop
-destination_walk table i = walk table (operand_access (kind_of (use_of i.op)) i.destination i.size)
+destination_walk table i = walk table (operand_access (kind_of i.usage) i.destination i.size)
 
 -- the source goes first
 accesses-walk : (table : Table) (i : Instruction) → walk table (accesses_of i) ≡ stop_then (source_walk table i) (destination_walk table i)
 unfolding accesses_of
-accesses-walk table i = walk-append table (operand_access Read i.source i.source_size) (operand_access (kind_of (use_of i.op)) i.destination i.size)
+accesses-walk table i = walk-append table (operand_access Read i.source i.source_size) (operand_access (kind_of i.usage) i.destination i.size)
 
 -- where the walk of an instruction doesn't stop, that of its source and that of its destination don't
 pub both-free : (table : Table) (i : Instruction) → walk table (accesses_of i) ≡ None

@@ -18,7 +18,6 @@ use Rattle.core_step.specs.declared.kinds.Instruction.{Instruction}
 use Rattle.machine_state.specs.declared.kinds.Access.{Access}
 use Rattle.machine_state.specs.declared.kinds.Stop.{Stop}
 use Rattle.core_step.specs.Size.{bytes_in}
-use Rattle.core_step.specs.Operands.{use_of}
 
 -- the access of an operand, which is one where it is in memory
 abbrev pub operand_access : Kind → Operand → Size → List Access
@@ -36,7 +35,7 @@ kind_of Update = Write
 
 -- the access list: the source is read first, and the destination comes last
 unfoldable pub accesses_of : Instruction → List Access
-accesses_of i = operand_access Read i.source i.source_size ++ operand_access (kind_of (use_of i.op)) i.destination i.size
+accesses_of i = operand_access Read i.source i.source_size ++ operand_access (kind_of i.usage) i.destination i.size
 
 abbrev pub is_write : Kind → Bool
 is_write Write = true

@@ -29,6 +29,10 @@ rm_number f = 8 * f.b + rm_of (modrm_of f)
 abbrev pub opcode_number : Fields → ℕ
 opcode_number f = 8 * f.b + f.opcode % 8
 
+-- the register in vvvv (SDM volume 2, 2.3.5.6)
+abbrev pub vvvv_number : Fields → ℕ
+vvvv_number f = f.v % 16
+
 -- r/m names memory where mod isn't 3
 abbrev pub is_memory : Fields → Bool
 is_memory f = nat_lt (mod_of (modrm_of f)) 3

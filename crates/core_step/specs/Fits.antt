@@ -27,7 +27,8 @@ OperandFits (Number number) = ⊤
 
 -- and a condition has one of sixteen numbers
 abbrev pub InstructionFits : Instruction → Type 0
-InstructionFits i = OperandFits i.destination × OperandFits i.source × OperandFits i.third × (i.condition < 16)
+InstructionFits i =
+    OperandFits i.destination × OperandFits i.source × OperandFits i.beside × OperandFits i.also × (i.condition < 16)
 
 abbrev pub PlanFits : Plan → Type 0
 PlanFits (Plain i) = InstructionFits i
@@ -38,7 +39,7 @@ PlanFits (OnPair i) = ⊤
 abbrev pub ActedFits : Acted → Outcome → Flags → Type 0
 ActedFits Done o flags = ⊤
 ActedFits Call o flags = ⊤
-ActedFits (Trap fault) o flags = (o.destination ≡ None) × (o.third ≡ None) × (o.stack ≡ None) × (o.flags ≡ flags)
+ActedFits (Trap fault) o flags = (o.destination ≡ None) × (o.also ≡ None) × (o.stack ≡ None) × (o.flags ≡ flags)
 ActedFits (Need slot) o flags = ⊥
 
 abbrev pub OutcomeFits : Outcome → Flags → Type 0

@@ -1,6 +1,7 @@
 pub use Rattle.machine_state.specs.State
 pub mod Size
 pub mod Address
+pub mod Roles
 pub mod Operands
 pub mod Fits
 pub mod Access

@@ -16,6 +16,7 @@ use Rattle.core_step.specs.declared.acted.Acted.TheVariants.{Done}
 use Rattle.core_step.specs.declared.kinds.PairPlan.{PairPlan}
 use Rattle.core_step.specs.Size.{bytes_in, bits_in, cut}
 use Rattle.core_step.specs.Address.{address_of}
+use Rattle.core_step.specs.declared.kinds.StackUse.TheVariants.{Aside}
 use Rattle.core_step.specs.Operands.{bases_for}
 use Rattle.core_step.specs.Effect.{Processor, Effect}
 
@@ -27,7 +28,7 @@ half_in row = if row.width == 64 then Double else Quad
 unfoldable pub pair_of : Row → Decoded → (next : ℕ) → State → PairPlan
 pair_of row d next s = record {
   half = half_in row;
-  addr = address_of d.fields d.disp s.gprs (bases_for (Core Cmpxchg8b) (half_in row) s next);
+  addr = address_of d.fields d.disp s.gprs (bases_for Aside (half_in row) s next);
   next = next;
 }
 

@@ -12,7 +12,6 @@ use Rattle.core_step.specs.declared.kinds.Use.TheVariants.{Read, Write, Update}
 use Rattle.core_step.specs.declared.kinds.Instruction.{Instruction}
 use Rattle.core_step.specs.declared.kinds.Outcome.{Outcome}
 use Rattle.core_step.specs.Size.{bytes_in, bits_in, cut, with_high_byte}
-use Rattle.core_step.specs.Operands.{use_of}
 use Rattle.core_step.specs.Effect.{Processor, Effect}
 use Rattle.core_step.specs.Result.{outcome_of}
 
@@ -72,13 +71,13 @@ number_for Write number = number
 number_for Update number = number
 
 abbrev pub destination_number : Instruction → Outcome → Option ℕ
-destination_number i o = number_for (use_of i.op) o.destination
+destination_number i o = number_for i.usage o.destination
 
--- the registers after an outcome: rsp first, then the third operand, and last the destination
+-- the registers after an outcome: rsp first, then what is written beside the destination, and last the destination
 unfoldable pub gprs_left : Instruction → Outcome → List ℕ → List ℕ
 gprs_left i o gprs =
     gprs_after i.destination i.size (destination_number i o)
-    (gprs_after i.third i.third_size o.third (gprs_stacked o.stack gprs))
+    (gprs_after i.also i.size o.also (gprs_stacked o.stack gprs))
 
 unfoldable pub byte_left : Instruction → Outcome → (ℕ → ℕ) → ℕ → ℕ
 byte_left i o byte = byte_after i.destination i.size (destination_number i o) byte
@@ -98,8 +97,8 @@ effect_by i o p byte = record { acted = o.acted; processor = processor_left i o 
 
 abbrev pub outcome_in : Instruction → Processor → (ℕ → ℕ) → Outcome
 outcome_in i p byte =
-    outcome_of i (old_value (use_of i.op) i.destination i.size p.gprs byte) (value_of i.source i.source_size p.gprs byte)
-    (register_value i.third i.third_size p.gprs) p.flags p.steps
+    outcome_of i (old_value i.usage i.destination i.size p.gprs byte) (value_of i.source i.source_size p.gprs byte)
+    (register_value i.beside i.beside_size p.gprs) p.flags p.steps
 
 -- the effect, by the bytes of memory
 abbrev pub plain_effect : Instruction → Processor → (ℕ → ℕ) → Effect

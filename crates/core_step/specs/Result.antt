@@ -6,13 +6,13 @@ use Rattle.gpr_flags.specs.declared.kinds.Flags.{Flags}
 use Rattle.gpr_flags.specs.Numbers.{is_negative}
 use Rattle.gpr_flags.specs.Flags.{flags_word, flags_of, holds}
 use Rattle.row_table.specs.declared.operations.Op.{Op}
-use Rattle.row_table.specs.declared.operations.Op.TheVariants.{Core, Gpr, Bit}
+use Rattle.row_table.specs.declared.operations.Op.TheVariants.{Core, Gpr, Bit, String, Lane, Cross, Width, Mac, Mask, Vector, Gather, Xsave}
 use Rattle.row_table.specs.declared.operations.CoreOp.{CoreOp}
-use Rattle.row_table.specs.declared.operations.CoreOp.TheVariants.{Mov, Movsxd, Movzx, Movsx, Lea, Xchg, Push, Pop, Pushf, Popf, Leave, Call, Ret, Jmp, Jcc, Loopne, Loope, Loop, Jrcxz, Cmovcc, Setcc, Cbw, Cwd, Bswap, Cmc, Clc, Stc, Cld, Std, Sahf, Lahf, Int3, Hlt, Syscall, Rdtsc, Nop, Movbe, Movnti, Clflush, Xadd, Cmpxchg}
+use Rattle.row_table.specs.declared.operations.CoreOp.TheVariants.{Mov, Movsxd, Movzx, Movsx, Lea, Xchg, Push, Pop, Pushf, Popf, Leave, Call, Ret, Jmp, Jcc, Loopne, Loope, Loop, Jrcxz, Cmovcc, Setcc, Cbw, Cwd, Bswap, Cmc, Clc, Stc, Cld, Std, Sahf, Lahf, Int3, Hlt, Syscall, Rdtsc, Nop, Movbe, Movnti, Clflush, Xadd, Cmpxchg, Cmpxchg8b, Cpuid, Xgetbv, Ldmxcsr, Stmxcsr, Vzeroupper, Vzeroall}
 use Rattle.row_table.specs.declared.operations.GprOp.{GprOp}
-use Rattle.row_table.specs.declared.operations.GprOp.TheVariants.{Add, Cmp, Mul, Imul, Div, Idiv, Mulx}
+use Rattle.row_table.specs.declared.operations.GprOp.TheVariants.{Add, Or, Adc, Sbb, And, Sub, Xor, Cmp, Test, Not, Neg, Inc, Dec, Mul, Imul, Div, Idiv, Mulx, Adcx, Adox}
 use Rattle.row_table.specs.declared.operations.BitOp.{BitOp}
-use Rattle.row_table.specs.declared.operations.BitOp.TheVariants.{Rol, Ror, Rcl, Rcr, Shl, Shr, Sar, Shld, Shrd, Bsf, Bsr}
+use Rattle.row_table.specs.declared.operations.BitOp.TheVariants.{Rol, Ror, Rcl, Rcr, Shl, Shr, Sar, Shld, Shrd, Bt, Bts, Btr, Btc, Popcnt, Bsf, Tzcnt, Bsr, Lzcnt, Andn, Blsr, Blsmsk, Blsi, Bzhi, Pext, Pdep, Bextr, Shlx, Sarx, Shrx, Rorx}
 use Rattle.gpr_units.specs.Numbers.{low_of}
 use Rattle.gpr_units.specs.Alu.{alu_value, alu_flags}
 use Rattle.gpr_units.specs.Multiply.{product_of, low_half, high_half, product_flags}
@@ -47,7 +47,7 @@ counted_down size count = cut size (count + (2 ^ 64 - 1))
 -- ---- outcomes
 -- nothing but that the instruction pointer moves on
 abbrev pub passes : Instruction → Flags → Outcome
-passes i flags = record { acted = Done; destination = None; third = None; stack = None; flags = flags; rip = i.next }
+passes i flags = record { acted = Done; destination = None; also = None; stack = None; flags = flags; rip = i.next }
 
 -- a number goes to the destination
 abbrev pub gives : ℕ → Instruction → Flags → Outcome
@@ -70,9 +70,9 @@ pushes number i flags = record (gives number i flags) { stack = Some i.stack }
 abbrev pub pops : Instruction → Outcome → Outcome
 pops i outcome = record outcome { stack = Some (raised i.stack (bytes_in i.size)) }
 
--- what stood in the destination goes to the third operand
+-- what stood in the destination goes to the source
 abbrev pub exchanges_numbers : (a b : ℕ) → Instruction → Flags → Outcome
-exchanges_numbers a b i flags = record (gives b i flags) { third = Some a }
+exchanges_numbers a b i flags = record (gives b i flags) { also = Some a }
 
 -- the address of the next instruction is pushed, and the next one is elsewhere
 abbrev pub calls : (target : ℕ) → Instruction → Flags → Outcome
@@ -84,11 +84,11 @@ returns_to target i flags = record (jumps true target i flags) { stack = Some (r
 
 -- the call of the system is answered behind the instruction
 abbrev pub calls_system : Instruction → Flags → Outcome
-calls_system i flags = record (gives i.next i flags) { acted = Calls; third = Some (flags_word flags) }
+calls_system i flags = record (gives i.next i flags) { acted = Calls; also = Some (flags_word flags) }
 
--- the lower half of a counter goes to the destination, and the upper half to the third operand
+-- the lower half of a counter goes to the destination, and the upper half beside it
 abbrev pub counts : (counter : ℕ) → Instruction → Flags → Outcome
-counts counter i flags = record (gives counter i flags) { third = Some (counter / 2 ^ 32) }
+counts counter i flags = record (gives counter i flags) { also = Some (counter / 2 ^ 32) }
 
 -- a trap behind the instruction
 abbrev pub breaks : Instruction → Flags → Outcome
@@ -106,7 +106,7 @@ unperformed i flags = faults Undefined i flags
 abbrev pub exchanges_sum : Instruction → (a b : ℕ) → Flags → Outcome
 exchanges_sum i a b flags =
     record (gives (alu_value (Gpr Add) (bits_in i.size) a b flags) i (alu_flags (Gpr Add) (bits_in i.size) a b flags)) {
-      third = Some a;
+      also = Some a;
     }
 
 -- rAX is compared with the destination: the source goes there where they are equal, and else the destination to rAX (SDM
@@ -114,11 +114,11 @@ exchanges_sum i a b flags =
 abbrev pub compares : Instruction → (a b c : ℕ) → Flags → Outcome
 compares i a b c flags = record (passes i (alu_flags (Gpr Cmp) (bits_in i.size) c a flags)) {
   destination = if c == a then Some b else None;
-  third = if c == a then None else Some a;
+  also = if c == a then None else Some a;
 }
 
--- the operations in the order of the SDM's listing, each by its page there; a is the destination's number, b the source's and c the
--- third operand's, and `steps` the number of completed steps
+-- each operation by its page in the SDM's volume 2; a is the destination's number, b the source's and c that of what is read beside
+-- these, and `steps` the number of completed steps
 unfoldable pub core_outcome : CoreOp → Instruction → (a b c : ℕ) → Flags → (steps : ℕ) → Outcome
 core_outcome Mov i a b c flags steps = gives b i flags
 core_outcome Movzx i a b c flags steps = gives b i flags
@@ -161,45 +161,73 @@ core_outcome Movnti i a b c flags steps = gives b i flags
 core_outcome Clflush i a b c flags steps = passes i flags
 core_outcome Xadd i a b c flags steps = exchanges_sum i a b flags
 core_outcome Cmpxchg i a b c flags steps = compares i a b c flags
-core_outcome _ i a b c flags steps = unperformed i flags
+core_outcome Cpuid i a b c flags steps = unperformed i flags
+core_outcome Cmpxchg8b i a b c flags steps = unperformed i flags
+core_outcome Xgetbv i a b c flags steps = unperformed i flags
+core_outcome Ldmxcsr i a b c flags steps = unperformed i flags
+core_outcome Stmxcsr i a b c flags steps = unperformed i flags
+core_outcome Vzeroupper i a b c flags steps = unperformed i flags
+core_outcome Vzeroall i a b c flags steps = unperformed i flags
 
--- a product's lower half goes to rAX and its upper half to rDX or AH; else the lower half to the destination (SDM volume 2, MUL and
--- IMUL)
-abbrev pub multiplies_wide : (signed : Bool) → Instruction → (a b : ℕ) → Flags → Outcome
-multiplies_wide signed i a b flags =
-    let product = product_of signed (bits_in i.size) a b in
+-- a product's lower half goes to the destination, and its upper half beside it, where there is a place for it (SDM volume 2, MUL
+-- and IMUL)
+abbrev pub multiplies : (signed : Bool) → Instruction → (b c : ℕ) → Flags → Outcome
+multiplies signed i b c flags =
+    let product = product_of signed (bits_in i.size) c b in
     record (gives (low_half (bits_in i.size) product) i (product_flags signed (bits_in i.size) product flags)) {
-      third = Some (high_half (bits_in i.size) product);
+      also = Some (high_half (bits_in i.size) product);
     }
 
-abbrev pub multiplies : Instruction → (a b : ℕ) → Flags → Outcome
-multiplies i a b flags =
-    let product = product_of true (bits_in i.size) a b in
-    gives (low_half (bits_in i.size) product) i (product_flags true (bits_in i.size) product flags)
+-- the upper half goes to the destination and the lower half beside it, and no flag changes (SDM volume 2, MULX)
+abbrev pub multiplies_freely : Instruction → (b c : ℕ) → Flags → Outcome
+multiplies_freely i b c flags =
+    let product = product_of false (bits_in i.size) c b in
+    record (gives (high_half (bits_in i.size) product) i flags) { also = Some (low_half (bits_in i.size) product) }
 
 -- the quotient goes to rAX and the remainder to rDX or AH; the dividend's upper half was there (SDM volume 2, DIV and IDIV)
 abbrev pub divides : (signed : Bool) → Instruction → (high low by : ℕ) → Flags → Outcome
 divides signed i high low by flags =
     if is_refused signed (bits_in i.size) high low by then faults Divide i flags
     else record (gives (low_of (bits_in i.size) (quotient_of signed (bits_in i.size) high low by)) i flags) {
-      third = Some (low_of (bits_in i.size) (remainder_of signed (bits_in i.size) high low by));
+      also = Some (low_of (bits_in i.size) (remainder_of signed (bits_in i.size) high low by));
     }
 
--- arithmetic: a value and its flags; the value counts only where the destination is written
+-- a value and its flags; the value counts only where the destination is written
+abbrev pub computes : GprOp → Instruction → (a b : ℕ) → Flags → Outcome
+computes op i a b flags =
+    gives (alu_value (Gpr op) (bits_in i.size) a b flags) i (alu_flags (Gpr op) (bits_in i.size) a b flags)
+
 unfoldable pub gpr_outcome : GprOp → Instruction → (a b c : ℕ) → Flags → Outcome
-gpr_outcome Mul i a b c flags = multiplies_wide false i a b flags
-gpr_outcome Imul i a b c flags = if i.wide then multiplies_wide true i a b flags else multiplies i b c flags
+gpr_outcome Add i a b c flags = computes Add i a b flags
+gpr_outcome Or i a b c flags = computes Or i a b flags
+gpr_outcome Adc i a b c flags = computes Adc i a b flags
+gpr_outcome Sbb i a b c flags = computes Sbb i a b flags
+gpr_outcome And i a b c flags = computes And i a b flags
+gpr_outcome Sub i a b c flags = computes Sub i a b flags
+gpr_outcome Xor i a b c flags = computes Xor i a b flags
+gpr_outcome Cmp i a b c flags = computes Cmp i a b flags
+gpr_outcome Test i a b c flags = computes Test i a b flags
+gpr_outcome Not i a b c flags = computes Not i a b flags
+gpr_outcome Neg i a b c flags = computes Neg i a b flags
+gpr_outcome Inc i a b c flags = computes Inc i a b flags
+gpr_outcome Dec i a b c flags = computes Dec i a b flags
+gpr_outcome Adcx i a b c flags = computes Adcx i a b flags
+gpr_outcome Adox i a b c flags = computes Adox i a b flags
+gpr_outcome Mul i a b c flags = multiplies false i b c flags
+gpr_outcome Imul i a b c flags = multiplies true i b c flags
+gpr_outcome Mulx i a b c flags = multiplies_freely i b c flags
 gpr_outcome Div i a b c flags = divides false i c a b flags
 gpr_outcome Idiv i a b c flags = divides true i c a b flags
-gpr_outcome Mulx i a b c flags = unperformed i flags
-gpr_outcome op i a b c flags =
-    gives (alu_value (Gpr op) (bits_in i.size) a b flags) i (alu_flags (Gpr op) (bits_in i.size) a b flags)
 
 -- a shift or a rotate by the low byte of a count, where b is the second operand of a double shift
 abbrev pub shifts : BitOp → Instruction → (a b count : ℕ) → Flags → Outcome
 shifts op i a b count flags =
     gives (shift_value (Bit op) (bits_in i.size) a b (count % 256) flags) i
     (shift_flags (Bit op) (bits_in i.size) a b (count % 256) flags)
+
+-- a value and its flags
+abbrev pub picks : BitOp → Instruction → (a b : ℕ) → Flags → Outcome
+picks op i a b flags = gives (bits_value (Bit op) (bits_in i.size) a b) i (bits_flags (Bit op) (bits_in i.size) a b flags)
 
 -- where the source is 0 the destination stays, with all its bits (SDM volume 2, BSF and BSR)
 abbrev pub scans : BitOp → Instruction → (a b : ℕ) → Flags → Outcome
@@ -218,16 +246,41 @@ bit_outcome Shr i a b c flags = shifts Shr i a 0 b flags
 bit_outcome Sar i a b c flags = shifts Sar i a 0 b flags
 bit_outcome Shld i a b c flags = shifts Shld i a b c flags
 bit_outcome Shrd i a b c flags = shifts Shrd i a b c flags
+bit_outcome Bt i a b c flags = picks Bt i a b flags
+bit_outcome Bts i a b c flags = picks Bts i a b flags
+bit_outcome Btr i a b c flags = picks Btr i a b flags
+bit_outcome Btc i a b c flags = picks Btc i a b flags
+bit_outcome Popcnt i a b c flags = picks Popcnt i a b flags
 bit_outcome Bsf i a b c flags = scans Bsf i a b flags
+bit_outcome Tzcnt i a b c flags = picks Tzcnt i a b flags
 bit_outcome Bsr i a b c flags = scans Bsr i a b flags
-bit_outcome op i a b c flags =
-    gives (bits_value (Bit op) (bits_in i.size) a b) i (bits_flags (Bit op) (bits_in i.size) a b flags)
+bit_outcome Lzcnt i a b c flags = picks Lzcnt i a b flags
+bit_outcome Blsr i a b c flags = picks Blsr i a b flags
+bit_outcome Blsmsk i a b c flags = picks Blsmsk i a b flags
+bit_outcome Blsi i a b c flags = picks Blsi i a b flags
+bit_outcome Andn i a b c flags = picks Andn i c b flags
+bit_outcome Pext i a b c flags = picks Pext i c b flags
+bit_outcome Pdep i a b c flags = picks Pdep i c b flags
+bit_outcome Bzhi i a b c flags = picks Bzhi i b c flags
+bit_outcome Bextr i a b c flags = picks Bextr i b c flags
+bit_outcome Shlx i a b c flags = picks Shlx i b c flags
+bit_outcome Sarx i a b c flags = picks Sarx i b c flags
+bit_outcome Shrx i a b c flags = picks Shrx i b c flags
+bit_outcome Rorx i a b c flags = picks Rorx i b c flags
 
 abbrev pub outcome_by : Op → Instruction → (a b c : ℕ) → Flags → (steps : ℕ) → Outcome
 outcome_by (Core op) i a b c flags steps = core_outcome op i a b c flags steps
 outcome_by (Gpr op) i a b c flags steps = gpr_outcome op i a b c flags
 outcome_by (Bit op) i a b c flags steps = bit_outcome op i a b c flags
-outcome_by _ i a b c flags steps = unperformed i flags
+outcome_by (String op) i a b c flags steps = unperformed i flags
+outcome_by (Lane op) i a b c flags steps = unperformed i flags
+outcome_by (Cross op) i a b c flags steps = unperformed i flags
+outcome_by (Width op) i a b c flags steps = unperformed i flags
+outcome_by (Mac op) i a b c flags steps = unperformed i flags
+outcome_by (Mask op) i a b c flags steps = unperformed i flags
+outcome_by (Vector op) i a b c flags steps = unperformed i flags
+outcome_by (Gather op) i a b c flags steps = unperformed i flags
+outcome_by (Xsave op) i a b c flags steps = unperformed i flags
 
 unfoldable pub outcome_of : Instruction → (a b c : ℕ) → Flags → (steps : ℕ) → Outcome
 outcome_of i a b c flags steps = outcome_by i.op i a b c flags steps

@@ -18,6 +18,7 @@ use Rattle.core_step.specs.declared.kinds.Repeat.TheVariants.{Once, WhileEqual, 
 use Rattle.core_step.specs.declared.kinds.StringPlan.{StringPlan}
 use Rattle.core_step.specs.Size.{bytes_in}
 use Rattle.core_step.specs.Address.{segment_base}
+use Rattle.core_step.specs.declared.kinds.StackUse.TheVariants.{Aside}
 use Rattle.core_step.specs.Operands.{row_size, bases_for}
 use Rattle.core_step.specs.Effect.{Processor, Effect}
 
@@ -31,7 +32,7 @@ strings_of op row d next s = record {
   op = op;
   size = row_size row d.fields;
   wrap32 = d.fields.p67;
-  base = segment_base d.fields (bases_for (String op) (row_size row d.fields) s next);
+  base = segment_base d.fields (bases_for Aside (row_size row d.fields) s next);
   repeat = repeat_of d.fields;
   next = next;
 }

@@ -9,6 +9,7 @@ ghost use Rattle.core_step.specs.Fits.{RegistersFit};
 ghost use Rattle.core_step.specs.Machine.{state_of};
 
 use crate::addressing::{address, is_memory};
+use crate::kinds::StackUse;
 use crate::machine::Machine;
 use crate::operands::row_size;
 use row_table::{Align, Decoded, Fields, Row};
@@ -51,7 +52,7 @@ impl Machine {
             (bases_for row.now.op (size_of_row row.now d.now.fields) (state_of self.now w) (next_of len (state_of self.now w))) }
     {
         let next = self.rip.wrapping_add(len as u64);
-        let bases = self.bases(row.op, row_size(row, &d.fields), next);
+        let bases = self.bases(StackUse::Aside, row_size(row, &d.fields), next);
         address(&d.fields, d.disp, &self.gprs, bases)
     }
 

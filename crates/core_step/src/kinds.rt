@@ -16,27 +16,80 @@ pub enum Size {
     Quad,
 }
 
-/// A place in a row's list of operands.
-#[derive(Clone, Copy, Debug, PartialEq, Eq)]
-pub enum Spot {
+/// Where an operation finds an operand: in its row's list, or at a place of its own.
+#[derive(Clone, Copy)]
+pub enum Part {
     Absent,
-    /// The general register in ModRM.reg.
-    Reg,
-    /// The general register or memory in ModRM.r/m.
-    Rm,
-    /// The general register in the opcode.
-    OpcodeReg,
-    /// AL, AX, EAX or RAX.
+    First,
+    Second,
+    Third,
+    /// The first, moved in memory by the bit's number in the second.
+    Bit,
+    /// The address of what is in ModRM.r/m, as a number.
+    Address,
+    /// Memory on the stack.
+    Stack,
     Rax,
-    /// Memory at the address that stands in the immediate.
-    Offset,
-    Immediate,
-    /// The number 1.
-    One,
-    /// CL.
-    Cl,
-    /// The place in the code that is so far from the next instruction.
-    Relative,
+    Rcx,
+    Rdx,
+    Rbp,
+    R11,
+    Ah,
+    /// rDX, or AH of bytes.
+    UpperHalf,
+}
+
+/// How wide an operation's destination is.
+#[derive(Clone, Copy)]
+pub enum Breadth {
+    /// As its row says.
+    OfRow,
+    /// As what goes to the stack.
+    OfStack,
+    /// As an address.
+    OfAddress,
+}
+
+/// How wide another operand is.
+#[derive(Clone, Copy)]
+pub enum PartBreadth {
+    /// As the destination.
+    Same,
+    /// As the letter of its place says.
+    Letter,
+    Quad,
+    /// Half as wide as the destination.
+    Half,
+    /// One byte.
+    Count,
+}
+
+/// What an operation does with the stack.
+#[derive(Clone, Copy)]
+pub enum StackUse {
+    Aside,
+    /// It goes to below rsp.
+    Pushes,
+    /// It takes from rsp.
+    Pops,
+    /// It takes from rbp.
+    Leaves,
+}
+
+/// What an operation does with its operands.
+#[derive(Clone, Copy)]
+pub struct Roles {
+    pub breadth: Breadth,
+    pub destination: Part,
+    pub usage: Use,
+    pub source: Part,
+    pub source_breadth: PartBreadth,
+    /// What is read beside the destination and the source.
+    pub beside: Part,
+    pub beside_breadth: PartBreadth,
+    /// What is written beside the destination.
+    pub also: Part,
+    pub stack: StackUse,
 }
 
 /// Where an operand is.
@@ -79,18 +132,20 @@ pub struct Bases {
 #[derive(Clone, Copy)]
 pub struct Instruction {
     pub op: Op,
+    pub destination: Operand,
     /// The size of the destination.
     pub size: Size,
+    /// What is done with the destination.
+    pub usage: Use,
+    pub source: Operand,
     /// The size of the source.
     pub source_size: Size,
-    pub destination: Operand,
-    pub source: Operand,
-    /// What else is read, or written beside the destination.
-    pub third: Operand,
-    /// The size of the third operand.
-    pub third_size: Size,
-    /// Of a product or a quotient, whether it has two halves or a remainder.
-    pub wide: bool,
+    /// What is read beside the two.
+    pub beside: Operand,
+    /// The size of what is read beside the two.
+    pub beside_size: Size,
+    /// What is written beside the destination, with the same size.
+    pub also: Operand,
     /// The low four bits of the opcode.
     pub condition: u8,
     /// Where the stack's operand is.
@@ -157,8 +212,8 @@ pub struct Outcome {
     pub acted: Acted,
     /// The number that goes to the destination.
     pub destination: Option<u64>,
-    /// The number that goes to the third operand, where that is a register.
-    pub third: Option<u64>,
+    /// The number that goes beside the destination.
+    pub also: Option<u64>,
     /// The new rsp.
     pub stack: Option<u64>,
     pub flags: Flags,

@@ -16,6 +16,7 @@ mod pair;
 mod planning;
 mod resolving;
 mod results;
+mod roles;
 mod sizes;
 mod strings;
 #[cfg(test)]

@@ -24,7 +24,6 @@ use crate::acted::Acted;
 use crate::fetch_cache::FetchCache;
 use crate::fetching::{Fetched, fetch_outcome, read_run};
 use crate::kinds::{Instruction, Outcome, PairPlan, Plan, StringPlan};
-use crate::operands::destination_use;
 use crate::pair::{exchange_memory, exchange_registers, is_equal, load};
 use crate::results::outcome;
 use crate::strings::{count, is_over, iterate_once, lower_count, rip_after};
@@ -194,10 +193,9 @@ impl Machine {
         requires room { self.old.steps < 2 ^ 64 - 1 }
         ensures { IsLeft self.old self.new result (plain_effect i.now) }
     {
-        let usage = destination_use(i.op);
-        let a = old_value(usage, i.destination, i.size, &self.gprs, &self.pages);
+        let a = old_value(i.usage, i.destination, i.size, &self.gprs, &self.pages);
         let b = value(i.source, i.source_size, Kind::Read, &self.gprs, &self.pages);
-        let c = register_value(i.third, i.third_size, &self.gprs);
+        let c = register_value(i.beside, i.beside_size, &self.gprs);
         let outcome = outcome(i, a, b, c, self.flags, self.steps);
         self.leave(i, &outcome);
         outcome.acted
@@ -219,8 +217,8 @@ impl Machine {
         ensures pages { KeepsTable self.old.pages self.new.pages }
     {
         move_stack(&mut self.gprs, o.stack);
-        put_register(&mut self.gprs, i.third, i.third_size, o.third);
-        let number = number_for(destination_use(i.op), o.destination);
+        put_register(&mut self.gprs, i.also, i.size, o.also);
+        let number = number_for(i.usage, o.destination);
         put(
             &mut self.gprs,
             &mut self.pages,

@@ -1,31 +1,31 @@
 //! An instruction with its operands found, by the way in which it is performed.
 ghost use Rattle.std.specs.Prelude.{◌≡◌, ◌<◌, ◌≤◌};
 ghost use Rattle.machine_state.specs.Memory.{Swap};
-ghost use Rattle.core_step.specs.Operands.{rsp_for, instruction_as, instruction_of, source_size_of};
+ghost use Rattle.core_step.specs.Operands.{rsp_for, instruction_by as instruction_by_roles, instruction_of};
 ghost use Rattle.core_step.specs.Fits.{RegistersFit, InstructionFits, PlanFits};
 ghost use Rattle.core_step.specs.Strings.{strings_of};
 ghost use Rattle.core_step.specs.Pair.{pair_of};
-ghost use Rattle.core_step.specs.Plan.{plan_of as plan_of_row};
+ghost use Rattle.core_step.specs.Plan.{core_plan as core_plan_of, plan_of as plan_of_row};
 ghost use Rattle.core_step.specs.Machine.{state_of};
 
 use crate::addressing::{address, segment_base};
-use crate::kinds::{Bases, Instruction, PairPlan, Plan, Repeat, Size, StringPlan};
+use crate::kinds::{Bases, Instruction, PairPlan, Plan, Repeat, Roles, Size, StackUse, StringPlan};
 use crate::machine::Machine;
 use crate::operands::{
-    destination_size, is_wide, operand, operation, row_size, rsp_in_addresses, source_size,
-    stack_place, third_size, third_spot,
+    destination_size, operation, part_size, row_size, rsp_in_addresses, stack_place,
 };
 use crate::pair::half;
-use crate::resolving::{destination, source, third};
-use row_table::{CoreOp, Decoded, Op, Row, StringOp};
+use crate::resolving::operand_for;
+use crate::roles::roles;
+use row_table::{CoreOp, Decoded, Layout, Op, Row, StringOp, layout};
 
 impl Machine {
     // What addresses are made of.
-    pub(crate) fn bases(&self, op: Op, size: Size, next: u64) -> Bases
-        ensures { result ≡ record { rsp = rsp_for op size self.now.gprs; next = next; fs = self.now.fs; gs = self.now.gs } }
+    pub(crate) fn bases(&self, stack: StackUse, size: Size, next: u64) -> Bases
+        ensures { result ≡ record { rsp = rsp_for stack size self.now.gprs; next = next; fs = self.now.fs; gs = self.now.gs } }
     {
         Bases {
-            rsp: rsp_in_addresses(op, size, &self.gprs),
+            rsp: rsp_in_addresses(stack, size, &self.gprs),
             next,
             fs: self.fs,
             gs: self.gs,
@@ -39,45 +39,44 @@ impl Machine {
         ensures is { (w : Swap) → result ≡ instruction_of row.now d.now len (state_of self.now w) }
         ensures fits { InstructionFits result }
     {
-        let op = operation(row, &d.fields);
-        let size = destination_size(op, row, &d.fields);
+        let layout = layout(row.operands);
+        let op = operation(row, &layout, &d.fields);
+        let roles = roles(op, &layout);
+        let size = destination_size(roles.breadth, row, &d.fields);
         let next = self.rip.wrapping_add(len as u64);
-        self.instruction_with(op, size, row, d, next)
+        self.instruction_by(op, &roles, &layout, size, d, next)
     }
 
-    // The instruction of an operation whose destination has this size.
-    #[tactic(auto, unfolding(crate::specs::Operands::instruction_as, crate::specs::Operands::destination_in, crate::specs::Operands::source_in, crate::specs::Operands::third_in))]
-    fn instruction_with(&self, op: Op, size: Size, row: &Row, d: &Decoded, next: u64) -> Instruction
+    // The instruction of an operation with these roles, whose destination has this size.
+    #[tactic(auto, unfolding(crate::specs::Operands::instruction_by))]
+    fn instruction_by(
+        &self,
+        op: Op,
+        roles: &Roles,
+        layout: &Layout,
+        size: Size,
+        d: &Decoded,
+        next: u64,
+    ) -> Instruction
         requires { RegistersFit d.now.fields }
-        ensures is { (w : Swap) → result ≡ instruction_as op size
-            (source_size_of op row.now.operands size) row.now d.now next (state_of self.now w) }
+        ensures is { (w : Swap) → result ≡ instruction_by_roles op roles.now layout.now size d.now next
+            (state_of self.now w) }
         ensures fits { InstructionFits result }
     {
-        let operands = row.operands;
-        let source_size = source_size(op, operands, size);
-        let stack = stack_place(op, size, &self.gprs);
-        let bases = self.bases(op, size, next);
-        let destination = destination(op, operands, size, stack, d, &self.gprs, bases);
-        let source = source(op, operands, source_size, stack, d, &self.gprs, bases);
-        let wide = is_wide(op, operands);
-        let third_size = third_size(op, size);
-        let spelled = operand(
-            third_spot(operands),
-            third_size,
-            &d.fields,
-            d.disp,
-            &self.gprs,
-            bases,
-        );
+        let stack = stack_place(roles.stack, size, &self.gprs);
+        let bases = self.bases(roles.stack, size, next);
+        let source_size = part_size(roles.source_breadth, layout.second.size, size);
+        let beside_size = part_size(roles.beside_breadth, layout.third.size, size);
         Instruction {
             op,
+            destination: operand_for(roles.destination, size, layout, d, stack, &self.gprs, bases),
             size,
+            usage: roles.usage,
+            source: operand_for(roles.source, source_size, layout, d, stack, &self.gprs, bases),
             source_size,
-            destination,
-            source,
-            third: third(op, wide, size, spelled, destination, source),
-            third_size,
-            wide,
+            beside: operand_for(roles.beside, beside_size, layout, d, stack, &self.gprs, bases),
+            beside_size,
+            also: operand_for(roles.also, size, layout, d, stack, &self.gprs, bases),
             condition: d.fields.opcode % 16,
             stack,
             freed: d.fields.imm,
@@ -92,7 +91,7 @@ impl Machine {
         ensures { (w : Swap) → result ≡ strings_of op row.now d.now next (state_of self.now w) }
     {
         let size = row_size(row, &d.fields);
-        let bases = self.bases(Op::String(op), size, next);
+        let bases = self.bases(StackUse::Aside, size, next);
         StringPlan {
             op,
             size,
@@ -110,7 +109,7 @@ impl Machine {
         ensures { (w : Swap) → result ≡ pair_of row.now d.now next (state_of self.now w) }
     {
         let half = half(row);
-        let bases = self.bases(Op::Core(CoreOp::Cmpxchg8b), half, next);
+        let bases = self.bases(StackUse::Aside, half, next);
         PairPlan {
             half,
             addr: address(&d.fields, d.disp, &self.gprs, bases),
@@ -118,8 +117,70 @@ impl Machine {
         }
     }
 
+    // The same of what the core does by itself.
+    #[tactic(auto, unfolding(crate::specs::Plan::core_plan))]
+    fn core_plan(&self, op: CoreOp, row: &Row, d: &Decoded, len: u8) -> Plan
+        requires { RegistersFit d.now.fields }
+        ensures is { (w : Swap) → result ≡ core_plan_of op row.now d.now len (state_of self.now w) }
+        ensures fits { PlanFits result }
+    {
+        match op {
+            CoreOp::Cmpxchg8b => {
+                let next = self.rip.wrapping_add(len as u64);
+                Plan::OnPair(self.on_pair(row, d, next))
+            }
+            CoreOp::Mov
+            | CoreOp::Movsxd
+            | CoreOp::Movzx
+            | CoreOp::Movsx
+            | CoreOp::Movbe
+            | CoreOp::Movnti
+            | CoreOp::Lea
+            | CoreOp::Xchg
+            | CoreOp::Push
+            | CoreOp::Pop
+            | CoreOp::Pushf
+            | CoreOp::Popf
+            | CoreOp::Leave
+            | CoreOp::Call
+            | CoreOp::Ret
+            | CoreOp::Jmp
+            | CoreOp::Jcc
+            | CoreOp::Loopne
+            | CoreOp::Loope
+            | CoreOp::Loop
+            | CoreOp::Jrcxz
+            | CoreOp::Cmovcc
+            | CoreOp::Setcc
+            | CoreOp::Cbw
+            | CoreOp::Cwd
+            | CoreOp::Bswap
+            | CoreOp::Cmc
+            | CoreOp::Clc
+            | CoreOp::Stc
+            | CoreOp::Cld
+            | CoreOp::Std
+            | CoreOp::Sahf
+            | CoreOp::Lahf
+            | CoreOp::Int3
+            | CoreOp::Hlt
+            | CoreOp::Syscall
+            | CoreOp::Rdtsc
+            | CoreOp::Cpuid
+            | CoreOp::Nop
+            | CoreOp::Xadd
+            | CoreOp::Cmpxchg
+            | CoreOp::Xgetbv
+            | CoreOp::Ldmxcsr
+            | CoreOp::Stmxcsr
+            | CoreOp::Clflush
+            | CoreOp::Vzeroupper
+            | CoreOp::Vzeroall => Plan::Plain(self.instruction(row, d, len)),
+        }
+    }
+
     // The instruction of a row and its fields, by the row's operation.
-    #[tactic(auto, unfolding(crate::specs::Plan::plan_of, crate::specs::Plan::core_plan))]
+    #[tactic(auto, unfolding(crate::specs::Plan::plan_of))]
     pub(crate) fn plan_for(&self, row: &Row, d: &Decoded, len: u8) -> Plan
         requires { RegistersFit d.now.fields }
         ensures is { (w : Swap) → result ≡ plan_of_row row.now d.now len (state_of self.now w) }
@@ -128,8 +189,17 @@ impl Machine {
         let next = self.rip.wrapping_add(len as u64);
         match row.op {
             Op::String(op) => Plan::OnStrings(self.on_strings(op, row, d, next)),
-            Op::Core(CoreOp::Cmpxchg8b) => Plan::OnPair(self.on_pair(row, d, next)),
-            _ => Plan::Plain(self.instruction(row, d, len)),
+            Op::Core(op) => self.core_plan(op, row, d, len),
+            Op::Gpr(_)
+            | Op::Bit(_)
+            | Op::Lane(_)
+            | Op::Cross(_)
+            | Op::Width(_)
+            | Op::Mac(_)
+            | Op::Mask(_)
+            | Op::Vector(_)
+            | Op::Gather(_)
+            | Op::Xsave(_) => Plan::Plain(self.instruction(row, d, len)),
         }
     }
 }

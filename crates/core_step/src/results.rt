@@ -1,11 +1,10 @@
 //! What comes of an instruction, from the numbers of its destination and its source.
 ghost use Rattle.std.specs.Prelude.{◌≡◌, ◌<◌, ◌^◌};
 ghost use Rattle.std.specs.Prelude.{IsTrue, ◌*◌};
-ghost use Rattle.gpr_units.specs.Alu.{is_alu, alu_value, alu_flags};
-ghost use Rattle.bit_units.specs.Bits.{bits_value, bits_flags};
+ghost use Rattle.gpr_units.specs.Alu.{is_alu};
 ghost use Rattle.core_step.specs.Size.{bits_in, bytes_in};
 ghost use Rattle.core_step.specs.Fits.{OutcomeFits};
-ghost use Rattle.core_step.specs.Result.{reversed as reversed_to, sign_bits as sign_bits_of, counted_down as counted_down_to, passes as passes_of, gives as gives_of, jumps as jumps_of, loops as loops_of, pushes as pushes_of, pops as pops_of, exchanges_numbers, calls as calls_of, returns_to, calls_system as calls_system_of, counts as counts_of, breaks as breaks_of, exchanges_sum as exchanges_sum_of, compares as compares_of, multiplies_wide as multiplies_wide_of, multiplies as multiplies_of, divides as divides_of, shifts as shifts_of, scans as scans_of, core_outcome as core_outcome_of, gpr_outcome as gpr_outcome_of, bit_outcome as bit_outcome_of, outcome_of, faults as faults_of};
+ghost use Rattle.core_step.specs.Result.{reversed as reversed_to, sign_bits as sign_bits_of, counted_down as counted_down_to, passes as passes_of, gives as gives_of, jumps as jumps_of, loops as loops_of, pushes as pushes_of, pops as pops_of, exchanges_numbers, calls as calls_of, returns_to, calls_system as calls_system_of, counts as counts_of, breaks as breaks_of, exchanges_sum as exchanges_sum_of, compares as compares_of, multiplies as multiplies_of, multiplies_freely as multiplies_freely_of, computes as computes_of, picks as picks_of, divides as divides_of, shifts as shifts_of, scans as scans_of, core_outcome as core_outcome_of, gpr_outcome as gpr_outcome_of, bit_outcome as bit_outcome_of, outcome_of, faults as faults_of};
 
 use crate::acted::Acted;
 use crate::flags::with_low;
@@ -51,7 +50,7 @@ fn passes(i: &Instruction, flags: Flags) -> Outcome
     Outcome {
         acted: Acted::Done,
         destination: None,
-        third: None,
+        also: None,
         stack: None,
         flags,
         rip: i.next,
@@ -125,7 +124,7 @@ fn exchanges_sum(i: &Instruction, a: u64, b: u64, f: Flags) -> Outcome
     ensures { result ≡ exchanges_sum_of i.now a b f }
 {
     Outcome {
-        third: Some(a),
+        also: Some(a),
         ..computes(GprOp::Add, i, a, b, f)
     }
 }
@@ -138,17 +137,17 @@ fn compares(i: &Instruction, a: u64, b: u64, c: u64, f: Flags) -> Outcome
     let is_equal = c == a;
     Outcome {
         destination: if is_equal { Some(b) } else { None },
-        third: if is_equal { None } else { Some(a) },
+        also: if is_equal { None } else { Some(a) },
         ..passes(i, flags)
     }
 }
 
-/// What stood in the destination goes to the third operand.
+/// What stood in the destination goes to the source.
 fn exchanges(a: u64, b: u64, i: &Instruction, f: Flags) -> Outcome
     ensures { result ≡ exchanges_numbers a b i.now f }
 {
     Outcome {
-        third: Some(a),
+        also: Some(a),
         ..gives(b, i, f)
     }
 }
@@ -179,7 +178,7 @@ fn calls_system(i: &Instruction, f: Flags) -> Outcome
 {
     Outcome {
         acted: Acted::Call,
-        third: Some(f.word()),
+        also: Some(f.word()),
         ..gives(i.next, i, f)
     }
 }
@@ -189,7 +188,7 @@ fn counts(counter: u64, i: &Instruction, f: Flags) -> Outcome
     ensures { result ≡ counts_of counter i.now f }
 {
     Outcome {
-        third: Some(counter >> 32),
+        also: Some(counter >> 32),
         ..gives(counter, i, f)
     }
 }
@@ -256,29 +255,38 @@ fn core_outcome(
         CoreOp::Nop | CoreOp::Clflush => passes(i, f),
         CoreOp::Xadd => exchanges_sum(i, a, b, f),
         CoreOp::Cmpxchg => compares(i, a, b, c, f),
-        _ => faults(Fault::Undefined, i, f),
+        CoreOp::Cpuid
+        | CoreOp::Cmpxchg8b
+        | CoreOp::Xgetbv
+        | CoreOp::Ldmxcsr
+        | CoreOp::Stmxcsr
+        | CoreOp::Vzeroupper
+        | CoreOp::Vzeroall => faults(Fault::Undefined, i, f),
     }
 }
 
-/// A product of two numbers, in two halves.
-fn multiplies_wide(signed: bool, i: &Instruction, a: u64, b: u64, f: Flags) -> Outcome
-    ensures outcome { result ≡ multiplies_wide_of signed i.now a b f }
+/// A product: its lower half goes to the destination, and its upper half beside it.
+fn multiplies(signed: bool, i: &Instruction, b: u64, c: u64, f: Flags) -> Outcome
+    ensures { result ≡ multiplies_of signed i.now b c f }
 {
     let mut flags = f;
-    let (low, high) = multiply(i.size.bytes(), signed, a, b, &mut flags);
+    let (low, high) = multiply(i.size.bytes(), signed, c, b, &mut flags);
     Outcome {
-        third: Some(high),
+        also: Some(high),
         ..gives(low, i, flags)
     }
 }
 
-/// The lower half of a signed product.
-fn multiplies(i: &Instruction, a: u64, b: u64, f: Flags) -> Outcome
-    ensures outcome { result ≡ multiplies_of i.now a b f }
+/// A product whose upper half goes to the destination, and whose lower half goes beside it.
+fn multiplies_freely(i: &Instruction, b: u64, c: u64, f: Flags) -> Outcome
+    ensures { result ≡ multiplies_freely_of i.now b c f }
 {
-    let mut flags = f;
-    let (low, _) = multiply(i.size.bytes(), true, a, b, &mut flags);
-    gives(low, i, flags)
+    let mut unused = f;
+    let (low, high) = multiply(i.size.bytes(), false, c, b, &mut unused);
+    Outcome {
+        also: Some(low),
+        ..gives(high, i, f)
+    }
 }
 
 /// A quotient and its remainder.
@@ -288,7 +296,7 @@ fn divides(signed: bool, i: &Instruction, high: u64, low: u64, by: u64, f: Flags
 {
     match divide(i.size.bytes(), signed, high, low, by) {
         Ok((quotient, remainder)) => Outcome {
-            third: Some(remainder),
+            also: Some(remainder),
             ..gives(quotient, i, f)
         },
         Err(_) => faults(Fault::Divide, i, f),
@@ -298,8 +306,7 @@ fn divides(signed: bool, i: &Instruction, high: u64, low: u64, by: u64, f: Flags
 /// The value and the flags of one operation go to the destination.
 fn computes(op: GprOp, i: &Instruction, a: u64, b: u64, f: Flags) -> Outcome
     requires { IsTrue (is_alu (Op.Gpr op)) }
-    ensures { result ≡ gives_of (alu_value (Op.Gpr op) (bits_in i.now.size) a b f) i.now
-        (alu_flags (Op.Gpr op) (bits_in i.now.size) a b f) }
+    ensures { result ≡ computes_of op i.now a b f }
 {
     let mut flags = f;
     let value = alu(Op::Gpr(op), i.size.bytes(), a, b, &mut flags);
@@ -313,18 +320,26 @@ fn gpr_outcome(op: GprOp, i: &Instruction, a: u64, b: u64, c: u64, f: Flags) -> 
     ensures fits { OutcomeFits result f }
 {
     match op {
-        GprOp::Mul => multiplies_wide(false, i, a, b, f),
-        GprOp::Imul => {
-            if i.wide {
-                multiplies_wide(true, i, a, b, f)
-            } else {
-                multiplies(i, b, c, f)
-            }
-        }
+        GprOp::Add
+        | GprOp::Or
+        | GprOp::Adc
+        | GprOp::Sbb
+        | GprOp::And
+        | GprOp::Sub
+        | GprOp::Xor
+        | GprOp::Cmp
+        | GprOp::Test
+        | GprOp::Not
+        | GprOp::Neg
+        | GprOp::Inc
+        | GprOp::Dec
+        | GprOp::Adcx
+        | GprOp::Adox => computes(op, i, a, b, f),
+        GprOp::Mul => multiplies(false, i, b, c, f),
+        GprOp::Imul => multiplies(true, i, b, c, f),
+        GprOp::Mulx => multiplies_freely(i, b, c, f),
         GprOp::Div => divides(false, i, c, a, b, f),
         GprOp::Idiv => divides(true, i, c, a, b, f),
-        GprOp::Mulx => faults(Fault::Undefined, i, f),
-        _ => computes(op, i, a, b, f),
     }
 }
 
@@ -346,8 +361,7 @@ fn shifts(op: BitOp, i: &Instruction, a: u64, b: u64, count: u64, f: Flags) -> O
 
 /// The value and the flags of one operation on bits.
 fn picks(op: BitOp, i: &Instruction, a: u64, b: u64, f: Flags) -> Outcome
-    ensures { result ≡ gives_of (bits_value (Op.Bit op) (bits_in i.now.size) a b) i.now
-        (bits_flags (Op.Bit op) (bits_in i.now.size) a b f) }
+    ensures { result ≡ picks_of op i.now a b f }
 {
     let mut flags = f;
     let value = bits(Op::Bit(op), i.size.bytes(), a, b, &mut flags);
@@ -376,11 +390,23 @@ fn bit_outcome(op: BitOp, i: &Instruction, a: u64, b: u64, c: u64, f: Flags) -> 
             shifts(op, i, a, 0, b, f),
         BitOp::Shld | BitOp::Shrd => shifts(op, i, a, b, c, f),
         BitOp::Bsf | BitOp::Bsr => scans(op, i, a, b, f),
-        _ => picks(op, i, a, b, f),
+        BitOp::Bt
+        | BitOp::Bts
+        | BitOp::Btr
+        | BitOp::Btc
+        | BitOp::Popcnt
+        | BitOp::Tzcnt
+        | BitOp::Lzcnt
+        | BitOp::Blsr
+        | BitOp::Blsmsk
+        | BitOp::Blsi => picks(op, i, a, b, f),
+        BitOp::Andn | BitOp::Pext | BitOp::Pdep => picks(op, i, c, b, f),
+        BitOp::Bzhi | BitOp::Bextr | BitOp::Shlx | BitOp::Sarx | BitOp::Shrx | BitOp::Rorx =>
+            picks(op, i, b, c, f),
     }
 }
 
-/// What comes of an instruction: `a` is the number of its destination, `b` that of its source, `c` that of its third operand.
+/// What comes of an instruction: `a` is the number of its destination, `b` that of its source, `c` that of what is read beside these.
 #[tactic(auto, unfolding(crate::specs::Result::outcome_of))]
 pub(crate) fn outcome(i: &Instruction, a: u64, b: u64, c: u64, f: Flags, steps: u64) -> Outcome
     requires a { a < 2 ^ bits_in i.now.size }
@@ -393,6 +419,14 @@ pub(crate) fn outcome(i: &Instruction, a: u64, b: u64, c: u64, f: Flags, steps: 
         Op::Core(op) => core_outcome(op, i, a, b, c, f, steps),
         Op::Gpr(op) => gpr_outcome(op, i, a, b, c, f),
         Op::Bit(op) => bit_outcome(op, i, a, b, c, f),
-        _ => faults(Fault::Undefined, i, f),
+        Op::String(_)
+        | Op::Lane(_)
+        | Op::Cross(_)
+        | Op::Width(_)
+        | Op::Mac(_)
+        | Op::Mask(_)
+        | Op::Vector(_)
+        | Op::Gather(_)
+        | Op::Xsave(_) => faults(Fault::Undefined, i, f),
     }
 }

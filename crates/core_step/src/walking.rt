@@ -13,7 +13,6 @@ ghost use Rattle.core_step.specs.Machine.{state_of};
 use crate::acted::Acted;
 use crate::kinds::{Instruction, Operand, PairPlan, Plan, Size, StringPlan, Use};
 use crate::machine::Machine;
-use crate::operands::destination_use;
 use crate::pair::pair_len;
 use crate::strings::is_over;
 use arrayvec::ArrayVec;
@@ -55,7 +54,7 @@ fn operand_accesses(i: &Instruction) -> ArrayVec<Access, 2>
     add(&mut list, Kind::Read, i.source, i.source_size);
     add(
         &mut list,
-        kind_for(destination_use(i.op)),
+        kind_for(i.usage),
         i.destination,
         i.size,
     );

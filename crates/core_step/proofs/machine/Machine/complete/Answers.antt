@@ -1,11 +1,7 @@
-use Rattle.std.proofs.Common.{◌≡◌, None, refl, ap, ◌∙◌, sym, subst}
+use Rattle.std.proofs.Common.{◌≡◌, refl, ap, ◌∙◌}
 use Rattle.guest_pages.specs.Table.{perms_in}
-use Rattle.guest_pages.specs.Pages.{table_of, byte_of, memory_of}
-use Rattle.guest_pages.specs.Walk.{walk}
-use Rattle.core_step.specs.declared.kinds.Use.{Use}
+use Rattle.guest_pages.specs.Pages.{byte_of, memory_of}
 use Rattle.core_step.specs.declared.kinds.Outcome.{Outcome}
-use Rattle.core_step.specs.Access.{operand_access, kind_of}
-use Rattle.core_step.specs.Operands.{use_of}
 use Rattle.core_step.specs.Effect.{left_by}
 use Rattle.core_step.specs.Plain.{old_value, value_of, register_value, effect_by, outcome_in}
 use Rattle.core_step.specs.Result.{outcome_of}
@@ -15,9 +11,7 @@ use Rattle.core_step.proofs.Steps.{left-is, outcome-own}
 use Rattle.core_step.proofs.machine.Machine.complete.Goals as goal
 
 pub old_value-a-requires-clause-ready : goal.old_value-a-requires-clause-ready
-old_value-a-requires-clause-ready c =
-    let P : Use → Type 0 = λ u. walk (table_of c.args.self.now.pages) (operand_access (kind_of u) c.args.i.now.destination c.args.i.now.size) ≡ None in
-    subst P (sym c.destination_use-usage.ensures) (both-free _ _ c.requires.ready).1
+old_value-a-requires-clause-ready c = (both-free _ _ c.requires.ready).1
 
 pub value-b-requires-clause-ready : goal.value-b-requires-clause-ready
 value-b-requires-clause-ready c = (both-free _ _ c.requires.ready).0
@@ -31,13 +25,11 @@ returns c =
     let o = c.outcome-outcome.result in
     record {
       after = λ w.
-          let a : c.old_value-a.result ≡ old_value (use_of i.op) i.destination i.size old.gprs (byte_of old.pages w) =
-          c.old_value-a.ensures.value w
-          ∙ ap (λ (u : Use). old_value u i.destination i.size old.gprs (byte_of old.pages w)) c.destination_use-usage.ensures in
+          let a : c.old_value-a.result ≡ old_value i.usage i.destination i.size old.gprs (byte_of old.pages w) = c.old_value-a.ensures.value w in
           let b : c.value-b.result ≡ value_of i.source i.source_size old.gprs (byte_of old.pages w) = c.value-b.ensures.value w in
-          let third : c.register_value-c.result ≡ register_value i.third i.third_size old.gprs = c.register_value-c.ensures.value in
+          let beside : c.register_value-c.result ≡ register_value i.beside i.beside_size old.gprs = c.register_value-c.ensures.value in
           let same : o ≡ outcome_in i p (byte_of old.pages w) =
-          c.outcome-outcome.ensures.outcome ∙ (λ k. outcome_of i (a k) (b k) (third k) old.flags old.steps) in
+          c.outcome-outcome.ensures.outcome ∙ (λ k. outcome_of i (a k) (b k) (beside k) old.flags old.steps) in
           left-is (effect_by i o p (byte_of old.pages w)) (memory_of old.pages w) o.acted (state_of c.leave.new.self w) refl c.leave.ensures.gprs
           c.leave.ensures.flags c.leave.ensures.rip refl c.leave.ensures.fs c.leave.ensures.gs c.leave.ensures.steps
           (ap perms_in c.leave.ensures.pages.table) (c.leave.ensures.byte w)
