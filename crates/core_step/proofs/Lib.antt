@@ -6,3 +6,4 @@ pub mod Frame
 pub mod Steps
 pub mod PageCounts
 pub mod FetchLemmas
+pub mod Performed

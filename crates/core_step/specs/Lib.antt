@@ -16,4 +16,5 @@ pub mod Pages
 pub mod Fetch
 pub mod Act
 pub mod Kept
+pub mod Performed
 pub mod Machine

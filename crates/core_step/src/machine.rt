@@ -18,6 +18,8 @@ ghost use Rattle.core_step.specs.Plan.{plan_accesses, effect_of};
 ghost use Rattle.core_step.specs.Pages.{TouchesAtMost, fetch_accesses};
 ghost use Rattle.core_step.specs.Fits.{InstructionFits, PlanFits};
 ghost use Rattle.core_step.specs.Fetch.{NeedsPage, IsFetched, IsFetchFit, fetched};
+ghost use Rattle.core_step.specs.Performed.{IsPerformed};
+ghost use Rattle.row_table.specs.declared.kinds.Row.{Row as AnyRow};
 ghost use Rattle.core_step.specs.Machine.{IsWhole, IsLeft, IsLocal, IsFramed, accesses, needed, state_of};
 
 use crate::acted::Acted;
@@ -100,6 +102,10 @@ impl Machine {
             ↔ (needed (walk (table_of self.old.pages) (accesses d.now len (state_of self.old w))) ≡ Some slot) }
         ensures pages { KeepsTable self.old.pages self.new.pages }
         ensures counted { self.new.steps ≡ steps_after result self.old.steps }
+        // An instruction that was decoded is performed: its answer is never that it is undefined.
+        ensures defined { result ≡ Acted.Trap Fault.Undefined → ⊥ }
+        // Its operation is one that is performed, and each operand that it needs has a place in its row's list.
+        ensures performed { (r : AnyRow) → slice_get rows d.now.row ≡ Some r → IsPerformed r }
         // The access list touches at most four pages.
         ensures few { (w : Swap) → TouchesAtMost 4 (accesses d.now len (state_of self.old w)) }
         // Memories that agree on the access list give the same.

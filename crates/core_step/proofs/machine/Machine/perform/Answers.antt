@@ -1,8 +1,8 @@
-use Rattle.std.proofs.Common.{◌≡◌, ◌↔◌, true, Some, Option, nat_lt, ◌&&◌, refl, ap, ◌∙◌, sym, subst}
+use Rattle.std.proofs.Common.{[], ◌≡◌, ◌↔◌, true, Some, Option, nat_lt, ◌&&◌, refl, ap, ◌∙◌, sym, subst}
 use Rattle.std.proofs.lemmas.Bool.{and_parts}
 use borrow.Author.Tests.{ltb-true}
 use Rattle.machine_state.specs.declared.kinds.Stop.{Stop}
-use Rattle.guest_pages.specs.Pages.{table_of, memory_of}
+use Rattle.guest_pages.specs.Pages.{table_of, byte_of, memory_of}
 use Rattle.guest_pages.specs.Walk.{walk}
 use Rattle.row_table.specs.declared.kinds.Fields.{Fields}
 use Rattle.legacy_decode.specs.Spelling.{registers_fit}
@@ -10,10 +10,13 @@ use Rattle.x_decode.proofs.Classes.{decoded-registers, decoded-row}
 use Rattle.core_step.specs.declared.acted.Acted.{Acted}
 use Rattle.core_step.specs.declared.acted.Acted.TheVariants.{Need}
 use Rattle.core_step.specs.declared.kinds.Plan.{Plan}
+use Rattle.machine_state.specs.Memory.{Swap}
 use Rattle.core_step.specs.Fits.{RegistersFit}
-use Rattle.core_step.specs.Plan.{plan_accesses}
-use Rattle.core_step.specs.Machine.{state_of, IsWhole, accesses, needed}
+use Rattle.core_step.specs.Effect.{After}
+use Rattle.core_step.specs.Plan.{plan_of, plan_accesses, effect_of}
+use Rattle.core_step.specs.Machine.{state_of, processor_in, IsWhole, accesses, needed}
 use Rattle.core_step.proofs.Steps.{performed-misaligned, accesses-misaligned, accesses-aligned, performed-stops, performed-passes, walk-none, whole-stopped, whole-own, stop-needs, own-needs}
+use Rattle.core_step.proofs.Performed.{IsDefined, row-performed, plan-defined, miss-defined}
 use Rattle.core_step.proofs.Local.{local}
 use Rattle.core_step.proofs.Frame.{framed}
 use Rattle.core_step.proofs.PageCounts.{accesses-touch}
@@ -118,3 +121,27 @@ returns-in-Ok-clause-local c w = local c.args.d.now c.args.len (state_of c.args.
 
 pub returns-in-Ok-clause-framed : goal.returns-in-Ok-clause-framed
 returns-in-Ok-clause-framed c w = framed c.args.d.now c.args.len (state_of c.args.self.now w)
+
+pub returns-in-Err-clause-defined : goal.returns-in-Err-clause-defined
+returns-in-Err-clause-defined c = subst IsDefined (sym c.answer.ensures) (miss-defined c.in-Err.stop.kind c.in-Err.stop.miss)
+
+pub returns-in-Ok-clause-defined : goal.returns-in-Ok-clause-defined
+returns-in-Ok-clause-defined c =
+    let old = c.args.self.now in
+    let zeros : Swap = λ slot. [] in
+    let byte = byte_of old.pages zeros in
+    let s = state_of old zeros in
+    let row = c.row-row.result in
+    let is : (effect_of (plan_of row c.args.d.now c.args.len s) (processor_in old) byte).acted ≡ c.finish.result =
+    ap (λ (plan : Plan). (effect_of plan (processor_in old) byte).acted) (sym (c.plan_for-plan.ensures.is zeros))
+    ∙ ap (λ (after : After). after.acted) (sym (c.finish.ensures.after zeros)) in
+    subst IsDefined is (plan-defined row c.args.d.now c.args.len s (processor_in old) byte (row-performed _ row c.row-row.ensures))
+
+pub returns-then-is_misaligned-clause-performed : goal.returns-then-is_misaligned-clause-performed
+returns-then-is_misaligned-clause-performed c row is = row-performed c.args.d.now.row row is
+
+pub returns-in-Err-clause-performed : goal.returns-in-Err-clause-performed
+returns-in-Err-clause-performed c row is = row-performed c.args.d.now.row row is
+
+pub returns-in-Ok-clause-performed : goal.returns-in-Ok-clause-performed
+returns-in-Ok-clause-performed c row is = row-performed c.args.d.now.row row is

@@ -1,0 +1,161 @@
+-- Every row of the table is performed, and so its instructions aren't undefined.
+use Rattle.std.proofs.Common.{◌≡◌, ℕ, zero, suc, Bool, true, false, ◌&&◌, cond, List, [], ◌∷◌, Option, None, slice_get, refl, sym, ap, subst, ◌∙◌}
+use Rattle.std.specs.Prelude.{⊤}
+use Rattle.std.proofs.Common.{Some as some}
+use Rattle.std.proofs.lemmas.Bool.{and_parts}
+use Rattle.gpr_flags.specs.declared.kinds.Flags.{Flags}
+use Rattle.gpr_flags.specs.declared.kinds.Fault.TheVariants.{Undefined, General, Divide}
+use Rattle.gpr_units.specs.Divide.{is_refused}
+use Rattle.machine_state.specs.declared.kinds.Kind.{Kind}
+use Rattle.machine_state.specs.declared.kinds.Miss.{Miss}
+use Rattle.machine_state.specs.declared.kinds.Miss.TheVariants.{Unmapped, Denied, NonCanonical, Away}
+use Rattle.machine_state.specs.State.{State}
+use Rattle.row_table.specs.declared.kinds.Row.{Row}
+use Rattle.row_table.specs.declared.kinds.Decoded.{Decoded}
+use Rattle.row_table.specs.declared.operations.Op.{Op}
+use Rattle.row_table.specs.declared.operations.Op.TheVariants.{Core, Gpr, Bit, String, Lane, Cross, Width, Mac, Mask, Vector, Gather, Xsave}
+use Rattle.row_table.specs.declared.operations.CoreOp.{CoreOp}
+use Rattle.row_table.specs.declared.operations.CoreOp.TheVariants.{Cmpxchg8b, Nop}
+use Rattle.row_table.specs.declared.operations.GprOp.{GprOp}
+use Rattle.row_table.specs.declared.operations.GprOp.TheVariants.{Div, Idiv}
+use Rattle.row_table.specs.declared.operations.BitOp.{BitOp}
+use Rattle.row_table.specs.declared.operations.BitOp.TheVariants.{Rol}
+use Rattle.row_table.specs.Letters.{layout_of, letters}
+use Rattle.row_table.specs.Legacy.{legacy, one_byte, two_byte, three_byte}
+use Rattle.row_table.specs.Rows.{rows}
+use Rattle.core_step.specs.declared.acted.Acted.{Acted}
+use Rattle.core_step.specs.declared.acted.Acted.TheVariants.{Done, Trap}
+use Rattle.core_step.specs.declared.kinds.Instruction.{Instruction}
+use Rattle.core_step.specs.declared.kinds.Outcome.{Outcome}
+use Rattle.core_step.specs.declared.kinds.StringPlan.{StringPlan}
+use Rattle.core_step.specs.Size.{bits_in}
+use Rattle.core_step.specs.Roles.{roles_of, core_roles, gpr_roles, bit_roles}
+use Rattle.core_step.specs.Operands.{instruction_of, instruction_by, op_of}
+use Rattle.core_step.specs.Access.{acted_by_miss}
+use Rattle.core_step.specs.Strings.{strings_of, is_over, passed_over, iterated, strings_effect}
+use Rattle.core_step.specs.Plan.{core_plan, plan_by, plan_of, next_of, effect_of}
+use Rattle.core_step.specs.Result.{faults, core_outcome, gpr_outcome, bit_outcome, outcome_by, outcome_of}
+use Rattle.core_step.specs.Effect.{Processor}
+use Rattle.core_step.specs.Plain.{outcome_in}
+use Rattle.core_step.specs.Performed.{core_performed, is_performed, are_placed, IsPerformed}
+
+-- ---- the table
+abbrev is_row_performed : Row → Bool
+is_row_performed row =
+    is_performed row.op && are_placed (layout_of row.operands) (roles_of row.op (layout_of row.operands))
+
+unfoldable all_performed : List Row → Bool
+all_performed [] = true
+all_performed (row ∷ rest) = is_row_performed row && all_performed rest
+
+rows-performed : all_performed rows ≡ true
+unfolding all_performed is_performed core_performed core_roles gpr_roles bit_roles layout_of letters rows legacy one_byte two_byte three_byte
+rows-performed = refl
+
+same_row : (row other : Row) → some row ≡ some other → row ≡ other
+same_row row other e = cc
+
+performed-at : (list : List Row) (i : ℕ) (row : Row) → all_performed list ≡ true → slice_get list i ≡ some row → is_row_performed row ≡ true
+unfolding all_performed
+performed-at [] i row h e = absurd cc
+performed-at (first ∷ rest) zero row h e =
+    subst (λ r. is_row_performed r ≡ true) (same_row first row e) (and_parts (is_row_performed first) (all_performed rest) h).0
+performed-at (first ∷ rest) (suc i) row h e = performed-at rest i row (and_parts (is_row_performed first) (all_performed rest) h).1 e
+
+pub row-performed : (i : ℕ) (row : Row) → slice_get rows i ≡ some row → IsPerformed row
+row-performed i row e =
+    let parts = and_parts (is_performed row.op) _ (performed-at rows i row rows-performed e) in
+    record { operation = parts.0; operands = parts.1 }
+
+-- ---- outcomes
+abbrev pub IsDefined : Acted → Type 0
+IsDefined acted = acted ≡ Trap Undefined → ⊥
+
+-- an operation that is performed on numbers
+abbrev IsPlain : Op → Type 0
+IsPlain (Core op) = (core_performed op ≡ true) × (op ≡ Cmpxchg8b → ⊥)
+IsPlain (Gpr op) = ⊤
+IsPlain (Bit op) = ⊤
+IsPlain (String op) = ⊥
+IsPlain (Lane op) = ⊥
+IsPlain (Cross op) = ⊥
+IsPlain (Width op) = ⊥
+IsPlain (Mac op) = ⊥
+IsPlain (Mask op) = ⊥
+IsPlain (Vector op) = ⊥
+IsPlain (Gather op) = ⊥
+IsPlain (Xsave op) = ⊥
+
+core-defined : (op : CoreOp) (i : Instruction) (a b c : ℕ) (flags : Flags) (steps : ℕ) → core_performed op ≡ true
+    → (op ≡ Cmpxchg8b → ⊥) → IsDefined (core_outcome op i a b c flags steps).acted
+unfolding core_performed core_outcome
+core-defined Cmpxchg8b i a b c flags steps h other e = other refl
+core-defined op i a b c flags steps h other e = cc
+
+divides-defined : (refused : Bool) (i : Instruction) (o : Outcome) (flags : Flags) → o.acted ≡ Done
+    → IsDefined (cond refused (faults Divide i flags) o).acted
+divides-defined true i o flags done = λ e. cc
+divides-defined false i o flags done = λ e. let clash : Done ≡ Trap Undefined = sym done ∙ e in cc
+
+gpr-defined : (op : GprOp) (i : Instruction) (a b c : ℕ) (flags : Flags) → IsDefined (gpr_outcome op i a b c flags).acted
+unfolding gpr_outcome
+gpr-defined Div i a b c flags = divides-defined (is_refused false (bits_in i.size) c a b) i _ flags refl
+gpr-defined Idiv i a b c flags = divides-defined (is_refused true (bits_in i.size) c a b) i _ flags refl
+gpr-defined op i a b c flags = λ e. cc
+
+bit-defined : (op : BitOp) (i : Instruction) (a b c : ℕ) (flags : Flags) → IsDefined (bit_outcome op i a b c flags).acted
+unfolding bit_outcome
+bit-defined Rol i a b c flags e = cc
+bit-defined op i a b c flags e = cc
+
+outcome-defined : (op : Op) (i : Instruction) (a b c : ℕ) (flags : Flags) (steps : ℕ) → IsPlain op
+    → IsDefined (outcome_by op i a b c flags steps).acted
+outcome-defined (Core op) i a b c flags steps h = core-defined op i a b c flags steps h.0 h.1
+outcome-defined (Gpr op) i a b c flags steps h = gpr-defined op i a b c flags
+outcome-defined (Bit op) i a b c flags steps h = bit-defined op i a b c flags
+outcome-defined op i a b c flags steps h = absurd h
+
+-- XCHG of rAX with itself is the no-operation, which is performed
+nop-plain : (itself : Bool) (op : Op) → IsPlain op → IsPlain (cond itself (Core Nop) op)
+unfolding core_performed
+nop-plain true op h = (refl, λ e. cc)
+nop-plain false op h = h
+
+-- ---- instructions
+instruction-defined : (row : Row) (d : Decoded) (len : ℕ) (s : State) (p : Processor) (byte : ℕ → ℕ) → IsPlain row.op
+    → IsDefined (outcome_in (instruction_of row d len s) p byte).acted
+unfolding instruction_of instruction_by outcome_of
+instruction-defined row d len s p byte h =
+    outcome-defined (op_of row (layout_of row.operands) d.fields) _ _ _ _ _ _ (nop-plain _ row.op h)
+
+core_plan-defined : (op : CoreOp) (row : Row) (d : Decoded) (len : ℕ) (s : State) (p : Processor) (byte : ℕ → ℕ) → row.op ≡ Core op
+    → core_performed op ≡ true → IsDefined (effect_of (core_plan op row d len s) p byte).acted
+unfolding core_plan
+core_plan-defined Cmpxchg8b row d len s p byte is h = λ e. cc
+core_plan-defined op row d len s p byte is h = instruction-defined row d len s p byte (subst IsPlain (sym is) (h, λ e. cc))
+
+strings-defined : (over : Bool) (i : StringPlan) (p : Processor) (byte : ℕ → ℕ)
+    → IsDefined (cond over (passed_over i p byte) (iterated i p byte)).acted
+strings-defined true i p byte = λ e. cc
+strings-defined false i p byte = λ e. cc
+
+plan_by-defined : (op : Op) (row : Row) (d : Decoded) (len : ℕ) (s : State) (p : Processor) (byte : ℕ → ℕ) → row.op ≡ op
+    → is_performed op ≡ true → IsDefined (effect_of (plan_by op row d len s) p byte).acted
+unfolding is_performed
+plan_by-defined (Core op) row d len s p byte is h = core_plan-defined op row d len s p byte is h
+plan_by-defined (Gpr op) row d len s p byte is h = instruction-defined row d len s p byte (subst IsPlain (sym is) tt)
+plan_by-defined (Bit op) row d len s p byte is h = instruction-defined row d len s p byte (subst IsPlain (sym is) tt)
+plan_by-defined (String op) row d len s p byte is h = strings-defined (is_over (strings_of op row d (next_of len s) s) p.gprs) _ p byte
+plan_by-defined op row d len s p byte is h = absurd (let clash : false ≡ true = h in cc)
+
+pub plan-defined : (row : Row) (d : Decoded) (len : ℕ) (s : State) (p : Processor) (byte : ℕ → ℕ) → IsPerformed row
+    → IsDefined (effect_of (plan_of row d len s) p byte).acted
+unfolding plan_of
+plan-defined row d len s p byte h = plan_by-defined row.op row d len s p byte refl h.operation
+
+-- nor is an access that can't be made
+pub miss-defined : (kind : Kind) (miss : Miss) → IsDefined (acted_by_miss kind miss)
+miss-defined kind (Unmapped addr) e = cc
+miss-defined kind (Denied addr) e = cc
+miss-defined kind (NonCanonical addr) e = cc
+miss-defined kind (Away slot) e = cc

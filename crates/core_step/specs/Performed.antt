@@ -1,0 +1,132 @@
+-- What holds of every row: its operation is performed, and each operand that it needs has a place in the row's list.
+use Rattle.std.specs.Prelude.{◌≡◌, Bool, true, false, ◌&&◌}
+use Rattle.row_table.specs.declared.kinds.Spot.{Spot}
+use Rattle.row_table.specs.declared.kinds.Spot.TheVariants.{Absent as NoSpot, Reg, Rm, Vvvv, OpcodeReg, Rax as AtRax, Cl, Memory, VectorMemory, Offset, Immediate, Relative, One, VectorReg, VectorRm, VectorVvvv, VectorImmediate, Xmm0, OpmaskReg, OpmaskRm, OpmaskVvvv}
+use Rattle.row_table.specs.declared.kinds.Layout.{Layout}
+use Rattle.row_table.specs.declared.kinds.Row.{Row}
+use Rattle.row_table.specs.Letters.{layout_of}
+use Rattle.row_table.specs.declared.operations.Op.{Op}
+use Rattle.row_table.specs.declared.operations.Op.TheVariants.{Core, Gpr, Bit as Bits, String, Lane, Cross, Width, Mac, Mask, Vector, Gather, Xsave}
+use Rattle.row_table.specs.declared.operations.CoreOp.{CoreOp}
+use Rattle.row_table.specs.declared.operations.CoreOp.TheVariants.{Mov, Movsxd, Movzx, Movsx, Movbe, Movnti, Lea, Xchg, Push, Pop, Pushf, Popf, Leave, Call, Ret, Jmp, Jcc, Loopne, Loope, Loop, Jrcxz, Cmovcc, Setcc, Cbw, Cwd, Bswap, Cmc, Clc, Stc, Cld, Std, Sahf, Lahf, Int3, Hlt, Syscall, Rdtsc, Cpuid, Nop, Xadd, Cmpxchg, Cmpxchg8b, Xgetbv, Ldmxcsr, Stmxcsr, Clflush, Vzeroupper, Vzeroall}
+use Rattle.core_step.specs.declared.kinds.Part.{Part}
+use Rattle.core_step.specs.declared.kinds.Part.TheVariants.{Absent, First, Second, Third, Bit, Address, Stack, Rax, Rcx, Rdx, Rbp, R11, Ah, UpperHalf}
+use Rattle.core_step.specs.declared.kinds.Roles.{Roles}
+use Rattle.core_step.specs.Roles.{roles_of}
+
+-- ---- operations
+unfoldable pub core_performed : CoreOp → Bool
+core_performed Mov = true
+core_performed Movsxd = true
+core_performed Movzx = true
+core_performed Movsx = true
+core_performed Movbe = true
+core_performed Movnti = true
+core_performed Lea = true
+core_performed Xchg = true
+core_performed Push = true
+core_performed Pop = true
+core_performed Pushf = true
+core_performed Popf = true
+core_performed Leave = true
+core_performed Call = true
+core_performed Ret = true
+core_performed Jmp = true
+core_performed Jcc = true
+core_performed Loopne = true
+core_performed Loope = true
+core_performed Loop = true
+core_performed Jrcxz = true
+core_performed Cmovcc = true
+core_performed Setcc = true
+core_performed Cbw = true
+core_performed Cwd = true
+core_performed Bswap = true
+core_performed Cmc = true
+core_performed Clc = true
+core_performed Stc = true
+core_performed Cld = true
+core_performed Std = true
+core_performed Sahf = true
+core_performed Lahf = true
+core_performed Int3 = true
+core_performed Hlt = true
+core_performed Syscall = true
+core_performed Rdtsc = true
+core_performed Nop = true
+core_performed Xadd = true
+core_performed Cmpxchg = true
+core_performed Cmpxchg8b = true
+core_performed Clflush = true
+core_performed Cpuid = false
+core_performed Xgetbv = false
+core_performed Ldmxcsr = false
+core_performed Stmxcsr = false
+core_performed Vzeroupper = false
+core_performed Vzeroall = false
+
+unfoldable pub is_performed : Op → Bool
+is_performed (Core op) = core_performed op
+is_performed (Gpr op) = true
+is_performed (Bits op) = true
+is_performed (String op) = true
+is_performed (Lane op) = false
+is_performed (Cross op) = false
+is_performed (Width op) = false
+is_performed (Mac op) = false
+is_performed (Mask op) = false
+is_performed (Vector op) = false
+is_performed (Gather op) = false
+is_performed (Xsave op) = false
+
+-- ---- operands
+-- what stands there is a general register, memory or a number
+abbrev pub is_general : Spot → Bool
+is_general NoSpot = false
+is_general Reg = true
+is_general Rm = true
+is_general Vvvv = true
+is_general OpcodeReg = true
+is_general AtRax = true
+is_general Cl = true
+is_general Memory = true
+is_general Offset = true
+is_general Immediate = true
+is_general Relative = true
+is_general One = true
+is_general VectorMemory = false
+is_general VectorReg = false
+is_general VectorRm = false
+is_general VectorVvvv = false
+is_general VectorImmediate = false
+is_general Xmm0 = false
+is_general OpmaskReg = false
+is_general OpmaskRm = false
+is_general OpmaskVvvv = false
+
+-- the part has a place; a bit is in the first operand, and an address is that of the second
+abbrev pub has_place : Layout → Part → Bool
+has_place layout First = is_general layout.first.spot
+has_place layout Second = is_general layout.second.spot
+has_place layout Third = is_general layout.third.spot
+has_place layout Bit = is_general layout.first.spot
+has_place layout Address = is_general layout.second.spot
+has_place layout Absent = true
+has_place layout Stack = true
+has_place layout Rax = true
+has_place layout Rcx = true
+has_place layout Rdx = true
+has_place layout Rbp = true
+has_place layout R11 = true
+has_place layout Ah = true
+has_place layout UpperHalf = true
+
+abbrev pub are_placed : Layout → Roles → Bool
+are_placed layout roles =
+    has_place layout roles.destination
+    && (has_place layout roles.source && (has_place layout roles.beside && has_place layout roles.also))
+
+-- ---- rows
+pub record IsPerformed (row : Row) : Type 0 where
+  pub operation : is_performed row.op ≡ true
+  pub operands : are_placed (layout_of row.operands) (roles_of row.op (layout_of row.operands)) ≡ true
