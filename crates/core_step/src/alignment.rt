@@ -49,7 +49,7 @@ impl Machine {
     fn operand_address(&self, row: &Row, d: &Decoded, len: u8) -> u64
         requires { RegistersFit d.now.fields }
         ensures { (w : Swap) → result ≡ address_of d.now.fields d.now.disp self.now.gprs
-            (bases_for row.now.op (size_of_row row.now d.now.fields) (state_of self.now w) (next_of len (state_of self.now w))) }
+            (bases_for StackUse.Aside (size_of_row row.now d.now.fields) (state_of self.now w) (next_of len (state_of self.now w))) }
     {
         let next = self.rip.wrapping_add(len as u64);
         let bases = self.bases(StackUse::Aside, row_size(row, &d.fields), next);
