@@ -401,8 +401,9 @@ fn bit_outcome(op: BitOp, i: &Instruction, a: u64, b: u64, c: u64, f: Flags) -> 
         | BitOp::Blsmsk
         | BitOp::Blsi => picks(op, i, a, b, f),
         BitOp::Andn | BitOp::Pext | BitOp::Pdep => picks(op, i, c, b, f),
-        BitOp::Bzhi | BitOp::Bextr | BitOp::Shlx | BitOp::Sarx | BitOp::Shrx | BitOp::Rorx =>
-            picks(op, i, b, c, f),
+        BitOp::Bzhi | BitOp::Bextr | BitOp::Shlx | BitOp::Sarx | BitOp::Shrx | BitOp::Rorx => picks(
+            op, i, b, c, f,
+        ),
     }
 }
 

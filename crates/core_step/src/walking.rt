@@ -52,12 +52,7 @@ fn operand_accesses(i: &Instruction) -> ArrayVec<Access, 2>
 {
     let mut list = ArrayVec::new();
     add(&mut list, Kind::Read, i.source, i.source_size);
-    add(
-        &mut list,
-        kind_for(i.usage),
-        i.destination,
-        i.size,
-    );
+    add(&mut list, kind_for(i.usage), i.destination, i.size);
     list
 }
 
