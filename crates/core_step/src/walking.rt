@@ -100,7 +100,7 @@ impl Machine {
             (λ _. walk_along (table_of self.now.pages) (plan_accesses plan.now (state_of self.now w)) ≡ None)
             (λ stop. walk_along (table_of self.now.pages) (plan_accesses plan.now (state_of self.now w)) ≡ Some stop) }
     {
-        self.pages.check(&self.accesses(plan))
+        self.pages.walk(&self.accesses(plan))
     }
 }
 

@@ -3,10 +3,12 @@
 
 mod entry;
 mod frame;
+mod keeping;
 mod lists;
 mod numbers;
 mod pages;
 mod walking;
 
+pub use keeping::keeping_law;
 pub use machine_state::{Kind, Miss, Perms};
 pub use pages::{Full, Pages};

@@ -127,8 +127,8 @@ impl Pages {
         }
     }
 
-    // Walks an access along its pages: the slot of the first page away, or why the first byte not allowed isn't.
-    fn walk(&self, addr: u64, len: u64, kind: Kind) -> Result<Option<u32>, Miss>
+    // Crosses the pages of an access: the slot of the first page away, or why the first byte not allowed isn't.
+    fn cross(&self, addr: u64, len: u64, kind: Kind) -> Result<Option<u32>, Miss>
         ensures walked { MatchResult result (IsWalked self.now kind addr len)
             (λ miss. first_miss (perms_in (table_of self.now)) kind addr len ≡ Some miss) }
         ensures low { OnOk result (0 < len → addr + len ≤ 0x800000000000) }
@@ -154,7 +154,7 @@ impl Pages {
         ensures answer { result ≡ answer_of (first_miss (perms_in (table_of self.now)) kind addr len) }
         ensures low { OnOk result (0 < len → addr + len ≤ 0x800000000000) }
     {
-        match self.walk(addr, len, kind) {
+        match self.cross(addr, len, kind) {
             Ok(_) => Ok(()),
             Err(miss) => Err(miss),
         }
@@ -165,7 +165,7 @@ impl Pages {
         ensures answer { result ≡ answer_of (blocked (table_of self.now) kind addr len) }
         ensures low { OnOk result (0 < len → addr + len ≤ 0x800000000000) }
     {
-        match self.walk(addr, len, kind) {
+        match self.cross(addr, len, kind) {
             Ok(Some(slot)) => Err(Miss::Away(slot)),
             Ok(None) => Ok(()),
             Err(miss) => Err(miss),

@@ -9,7 +9,7 @@ use machine_state::{Access, Stop};
 impl Pages {
     /// Walks an access list.
     #[tactic(auto, unfolding(crate::specs::Walk::walk))]
-    pub fn check(&self, accesses: &[Access]) -> Result<(), Stop>
+    pub fn walk(&self, accesses: &[Access]) -> Result<(), Stop>
         ensures { MatchResult result (λ _. walk (table_of self.now) accesses.now ≡ None)
             (λ stop. walk (table_of self.now) accesses.now ≡ Some stop) }
     {

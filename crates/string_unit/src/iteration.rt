@@ -145,7 +145,7 @@ pub fn iterate(
         source_place(wrap32, base, g),
         destination_place(wrap32, g),
     );
-    pages.check(&list).map_err(|stop| stop.miss)?;
+    pages.walk(&list).map_err(|stop| stop.miss)?;
     iterate_ready(op, size, wrap32, base, g, f, pages);
     Ok(())
 }

@@ -7,7 +7,7 @@ use Rattle.guest_pages.specs.Table.{away_at}
 use Rattle.guest_pages.specs.Pages.{table_of}
 use Rattle.guest_pages.proofs.Walks.{walks_on, walked_at, walked_out, walk_misses}
 use Rattle.guest_pages.proofs.Shows.{slot_away}
-use Rattle.guest_pages.proofs.pages.Pages.walk.Goals as goal
+use Rattle.guest_pages.proofs.pages.Pages.cross.Goals as goal
 
 pub returns-in_err-k-clause-walked : goal.returns-in_err-k-clause-walked
 returns-in_err-k-clause-walked c =
