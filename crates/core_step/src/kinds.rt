@@ -131,23 +131,12 @@ pub struct Bases {
 /// An instruction with its operands found.
 #[derive(Clone, Copy)]
 pub struct Instruction {
-    pub op: Op,
     pub destination: Operand,
-    /// The size of the destination.
-    pub size: Size,
-    /// What is done with the destination.
-    pub usage: Use,
     pub source: Operand,
-    /// The size of the source.
-    pub source_size: Size,
     /// What is read beside the two.
     pub beside: Operand,
-    /// The size of what is read beside the two.
-    pub beside_size: Size,
     /// What is written beside the destination, with the same size.
     pub also: Operand,
-    /// The low four bits of the opcode.
-    pub condition: u8,
     /// Where the stack's operand is.
     pub stack: u64,
     /// How many bytes RET frees beside its address.
@@ -156,6 +145,17 @@ pub struct Instruction {
     pub rip: u64,
     /// Where the next one stands.
     pub next: u64,
+    pub op: Op,
+    /// The size of the destination.
+    pub size: Size,
+    /// The size of the source.
+    pub source_size: Size,
+    /// The size of what is read beside the two.
+    pub beside_size: Size,
+    /// What is done with the destination.
+    pub usage: Use,
+    /// The low four bits of the opcode.
+    pub condition: u8,
 }
 
 /// How often an instruction on strings is performed, by its prefix (SDM volume 2, REP/REPE/REPZ/REPNE/REPNZ).

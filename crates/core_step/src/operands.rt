@@ -2,7 +2,8 @@
 ghost use Rattle.std.specs.Prelude.{◌≡◌, ◌<◌};
 ghost use Rattle.core_step.specs.Operands.{general, immediate_of, operand_at, op_of, prefixed_size as prefixed_size_of, stack_size as stack_size_of, address_size as address_size_of, row_size as row_size_of, size_by, letter_size as letter_size_of, part_size as part_size_of, upper_half as upper_half_of, operands_away as operands_away_of, bit_offset as bit_offset_of, bit_operand as bit_operand_of, stack_at, rsp_for};
 ghost use Rattle.core_step.specs.Size.{cut as cut_to, sign_extended as sign_extended_from};
-ghost use Rattle.core_step.specs.Fits.{OperandFits};
+ghost use Rattle.core_step.specs.Address.{address_of};
+ghost use Rattle.core_step.specs.Fits.{RegistersFit, OperandFits};
 
 use crate::addressing::{address, in_segment, is_memory, offset, opcode_reg, reg, rm, wrap};
 use crate::kinds::{Bases, Breadth, Operand, PartBreadth, Size, StackUse};
@@ -40,8 +41,19 @@ fn immediate(fields: &Fields) -> u64
     }
 }
 
+/// Memory in ModRM.r/m as an operand.
+#[inline(never)]
+fn memory(fields: &Fields, disp: i64, gprs: &Gprs, bases: &Bases) -> Operand
+    requires x { fields.now.x < 2 }
+    requires b { fields.now.b < 2 }
+    ensures operand { result ≡ Operand.Memory (address_of fields.now disp gprs.now bases.now) }
+    ensures fits { OperandFits result }
+{
+    Operand::Memory(address(fields, disp, gprs, *bases))
+}
+
 /// What stands at a place of a row's list of operands.
-#[inline]
+#[inline(always)]
 #[tactic(auto, unfolding(crate::specs::Operands::operand_at))]
 pub(crate) fn operand(
     spot: Spot,
@@ -49,19 +61,17 @@ pub(crate) fn operand(
     fields: &Fields,
     disp: i64,
     gprs: &Gprs,
-    bases: Bases,
+    bases: &Bases,
 ) -> Operand
-    requires r { fields.now.r < 2 }
-    requires x { fields.now.x < 2 }
-    requires b { fields.now.b < 2 }
-    ensures operand { result ≡ operand_at spot size fields.now disp gprs.now bases }
+    requires registers { RegistersFit fields.now }
+    ensures operand { result ≡ operand_at spot size fields.now disp gprs.now bases.now }
     ensures fits { OperandFits result }
 {
     match spot {
         Spot::Reg => register(size, fields, reg(fields)),
         Spot::Rm => {
             if is_memory(fields) {
-                Operand::Memory(address(fields, disp, gprs, bases))
+                memory(fields, disp, gprs, bases)
             } else {
                 register(size, fields, rm(fields))
             }
@@ -70,8 +80,8 @@ pub(crate) fn operand(
         Spot::OpcodeReg => register(size, fields, opcode_reg(fields)),
         Spot::Rax => Operand::Register(RAX),
         Spot::Cl => Operand::Register(RCX),
-        Spot::Memory => Operand::Memory(address(fields, disp, gprs, bases)),
-        Spot::Offset => Operand::Memory(in_segment(fields, bases, fields.imm)),
+        Spot::Memory => memory(fields, disp, gprs, bases),
+        Spot::Offset => Operand::Memory(in_segment(fields, *bases, fields.imm)),
         Spot::Immediate => Operand::Number(immediate(fields)),
         Spot::Relative => Operand::Number(bases.next.wrapping_add(immediate(fields))),
         Spot::One => Operand::Number(1),
@@ -228,6 +238,7 @@ fn bit_offset(size: Size, fields: &Fields, gprs: &Gprs) -> u64
 }
 
 /// The operand that holds the bit whose number is in a register.
+#[inline(never)]
 #[tactic(auto, unfolding(crate::specs::Operands::bit_operand))]
 pub(crate) fn bit_operand(
     size: Size,
@@ -236,9 +247,7 @@ pub(crate) fn bit_operand(
     gprs: &Gprs,
     bases: Bases,
 ) -> Operand
-    requires r { fields.now.r < 2 }
-    requires x { fields.now.x < 2 }
-    requires b { fields.now.b < 2 }
+    requires registers { RegistersFit fields.now }
     ensures operand { result ≡ bit_operand_of size fields.now disp gprs.now bases }
     ensures fits { OperandFits result }
 {

@@ -15,7 +15,7 @@ use crate::operands::{
     destination_size, operation, part_size, row_size, rsp_in_addresses, stack_place,
 };
 use crate::pair::half;
-use crate::resolving::operand_for;
+use crate::resolving::{operand_for, operand_if_any};
 use crate::roles::roles;
 use row_table::{CoreOp, Decoded, Layout, Op, Row, StringOp, layout};
 
@@ -68,10 +68,15 @@ impl Machine {
         let source_size = part_size(roles.source_breadth, layout.second.size, size);
         let beside_size = part_size(roles.beside_breadth, layout.third.size, size);
         Instruction {
-            op,
-            destination: operand_for(roles.destination, size, layout, d, stack, &self.gprs, bases),
-            size,
-            usage: roles.usage,
+            destination: operand_for(
+                roles.destination,
+                size,
+                layout,
+                d,
+                stack,
+                &self.gprs,
+                &bases,
+            ),
             source: operand_for(
                 roles.source,
                 source_size,
@@ -79,25 +84,28 @@ impl Machine {
                 d,
                 stack,
                 &self.gprs,
-                bases,
+                &bases,
             ),
-            source_size,
-            beside: operand_for(
+            beside: operand_if_any(
                 roles.beside,
                 beside_size,
                 layout,
                 d,
                 stack,
                 &self.gprs,
-                bases,
+                &bases,
             ),
-            beside_size,
-            also: operand_for(roles.also, size, layout, d, stack, &self.gprs, bases),
-            condition: d.fields.opcode % 16,
+            also: operand_if_any(roles.also, size, layout, d, stack, &self.gprs, &bases),
             stack,
             freed: d.fields.imm,
             rip: self.rip,
             next,
+            op,
+            size,
+            source_size,
+            beside_size,
+            usage: roles.usage,
+            condition: d.fields.opcode % 16,
         }
     }
 

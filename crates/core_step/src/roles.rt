@@ -335,6 +335,7 @@ fn bit_roles(op: BitOp, layout: &Layout) -> Roles
 }
 
 /// What an operation does with operands of this layout. Strings and vectors have plans of their own.
+#[inline(always)]
 pub(crate) fn roles(op: Op, layout: &Layout) -> Roles
     ensures { result ≡ roles_of op layout.now }
 {

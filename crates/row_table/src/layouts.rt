@@ -196,7 +196,7 @@ const OPMASK_VVVV: Place = Place {
 };
 
 /// Operands of which none is in ModRM.
-#[inline]
+#[inline(always)]
 fn bare(first: Place, second: Place, immediate: u8) -> Layout
     ensures { result ≡ record {
       first = first;
@@ -220,7 +220,7 @@ fn bare(first: Place, second: Place, immediate: u8) -> Layout
 }
 
 /// Operands behind which ModRM follows the opcode.
-#[inline]
+#[inline(always)]
 fn modrm(form: Form, first: Place, second: Place, third: Place, immediate: u8) -> Layout
     ensures { result ≡ record {
       first = first;
@@ -244,6 +244,7 @@ fn modrm(form: Form, first: Place, second: Place, third: Place, immediate: u8) -
 }
 
 /// What a list of operands says.
+#[inline(always)]
 #[tactic(auto, unfolding(crate::specs::Letters::letters, crate::specs::Letters::layout_of))]
 pub fn layout(operands: Operands) -> Layout
     ensures { result ≡ layout_of operands }
