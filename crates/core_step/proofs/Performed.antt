@@ -1,10 +1,10 @@
 -- Every row of the table is performed, and so its instructions aren't undefined.
-use Rattle.std.proofs.Common.{◌≡◌, ℕ, zero, suc, Bool, true, false, ◌&&◌, cond, List, [], ◌∷◌, Option, None, slice_get, refl, sym, ap, subst, ◌∙◌}
+use Rattle.std.proofs.Common.{◌≡◌, ℕ, zero, suc, Bool, true, false, ◌&&◌, cond, List, [], ◌∷◌, slice_get, refl, sym, subst, ◌∙◌}
 use Rattle.std.specs.Prelude.{⊤}
 use Rattle.std.proofs.Common.{Some as some}
 use Rattle.std.proofs.lemmas.Bool.{and_parts}
 use Rattle.gpr_flags.specs.declared.kinds.Flags.{Flags}
-use Rattle.gpr_flags.specs.declared.kinds.Fault.TheVariants.{Undefined, General, Divide}
+use Rattle.gpr_flags.specs.declared.kinds.Fault.TheVariants.{Undefined, Divide}
 use Rattle.gpr_units.specs.Divide.{is_refused}
 use Rattle.machine_state.specs.declared.kinds.Kind.{Kind}
 use Rattle.machine_state.specs.declared.kinds.Miss.{Miss}
@@ -32,7 +32,7 @@ use Rattle.core_step.specs.Size.{bits_in}
 use Rattle.core_step.specs.Roles.{roles_of, core_roles, gpr_roles, bit_roles}
 use Rattle.core_step.specs.Operands.{instruction_of, instruction_by, op_of}
 use Rattle.core_step.specs.Access.{acted_by_miss}
-use Rattle.core_step.specs.Strings.{strings_of, is_over, passed_over, iterated, strings_effect}
+use Rattle.core_step.specs.Strings.{strings_of, is_over, passed_over, iterated}
 use Rattle.core_step.specs.Plan.{core_plan, plan_by, plan_of, next_of, effect_of}
 use Rattle.core_step.specs.Result.{faults, core_outcome, gpr_outcome, bit_outcome, outcome_by, outcome_of}
 use Rattle.core_step.specs.Effect.{Processor}

@@ -7,8 +7,6 @@ use Rattle.machine_state.specs.State.{State}
 use Rattle.gpr_flags.specs.Registers.{RAX, RCX, RDX, RBX, with_register}
 use Rattle.row_table.specs.declared.kinds.Row.{Row}
 use Rattle.row_table.specs.declared.kinds.Decoded.{Decoded}
-use Rattle.row_table.specs.declared.operations.Op.TheVariants.{Core}
-use Rattle.row_table.specs.declared.operations.CoreOp.TheVariants.{Cmpxchg8b}
 use Rattle.machine_state.specs.declared.kinds.Access.{Access}
 use Rattle.core_step.specs.declared.kinds.Size.{Size}
 use Rattle.core_step.specs.declared.kinds.Size.TheVariants.{Double, Quad}

@@ -6,7 +6,6 @@ use Rattle.gpr_flags.specs.Registers.{RCX}
 use Rattle.row_table.specs.declared.kinds.Row.{Row}
 use Rattle.row_table.specs.declared.kinds.Fields.{Fields}
 use Rattle.row_table.specs.declared.kinds.Decoded.{Decoded}
-use Rattle.row_table.specs.declared.operations.Op.TheVariants.{String}
 use Rattle.row_table.specs.declared.operations.StringOp.{StringOp}
 use Rattle.row_table.specs.declared.operations.StringOp.TheVariants.{Cmps, Scas}
 use Rattle.machine_state.specs.State.{State}
