@@ -100,6 +100,8 @@ fn machine(rt: &HostRuntime, line: &Line) -> Result<Machine, io::Error> {
         flags: Flags::none(),
         rip: 0,
         pages,
+        fs: 0,
+        gs: 0,
         steps: 0,
     })
 }
