@@ -1,15 +1,9 @@
--- Numbers by their width in bits: bounds, rotates, and zeros above and below.
+-- Numbers by their width in bits: bounds, and zeros above and below.
 use Rattle.std.proofs.Common.{◌≡◌, ℕ, zero, suc, ◌+◌, ◌-◌, ◌*◌, ◌/◌, ◌%◌, ◌^◌, ◌<◌, ◌≤◌, min, ap, sym, ◌∙◌, arith}
 use Rattle.std.specs.Int.Count.{count_leading_zeros, count_trailing_zeros, leading_unique, under}
-use Rattle.std.proofs.Math.Nat.{pow-le-pow_right, pow-suc, div-eq_of_lt, mod-eq_of_lt}
-use Rattle.std.proofs.lemmas.Nat.{pow-add, pow_pos, mod_below, shr_below, mul-add-lt, leading_length}
-use Rattle.bit_units.specs.Shifts.{rotated}
-
-pub wider : (a width more : ℕ) → a < 2 ^ width → width ≤ more → a < 2 ^ more
-wider a width more less within =
-    let two : 0 < 2 = omega arith in
-    let powers : 2 ^ width ≤ 2 ^ more = pow-le-pow_right two within in
-    omega (arith, less, powers)
+use Rattle.std.proofs.Math.Nat.{pow-suc, div-eq_of_lt, mod-eq_of_lt}
+use Rattle.std.proofs.lemmas.Nat.{leading_length}
+use Rattle.gpr_flags.proofs.Widths.{wider}
 
 pub below_power : (number : ℕ) → number < 2 ^ number
 below_power zero = omega arith
@@ -23,19 +17,6 @@ none_above a width start less within = sym (div-eq_of_lt (wider a width start le
 
 pub whole_field : (a width count : ℕ) → a < 2 ^ width → width ≤ count → a ≡ a % 2 ^ count
 whole_field a width count less within = sym (mod-eq_of_lt (wider a width count less within))
-
-pub rotated_below : (width number to_top : ℕ) → number < 2 ^ width → to_top ≤ width → rotated width number to_top < 2 ^ width
-rotated_below width number to_top less within =
-    let parts : width - to_top + to_top ≡ width = omega arith in
-    let high : number / 2 ^ to_top < 2 ^ (width - to_top) = shr_below number (width - to_top) to_top (rw parts less) in
-    let low : number % 2 ^ to_top < 2 ^ to_top = mod_below number (2 ^ to_top) (pow_pos to_top) in
-    let both = mul-add-lt (number % 2 ^ to_top) (2 ^ (width - to_top)) (number / 2 ^ to_top) (2 ^ to_top) low high in
-    let powers : 2 ^ (width - to_top) * 2 ^ to_top ≡ 2 ^ width = sym (pow-add 2 (width - to_top) to_top) ∙ ap (λ n. 2 ^ n) parts in
-    omega (arith, both, powers)
-
-pub rotated_wide : (width number to_top : ℕ) → width ≤ 65 → number < 2 ^ width → to_top ≤ width → rotated width number to_top < 2 ^ 128
-rotated_wide width number to_top most less within =
-    wider (rotated width number to_top) width 128 (rotated_below width number to_top less within) (omega (arith, most))
 
 pub leading_within : (width more a : ℕ) → width ≤ more → a < 2 ^ width → more - width + count_leading_zeros width a ≡ count_leading_zeros more a
 leading_within width more a within less =

@@ -13,7 +13,8 @@ use Rattle.row_table.specs.declared.operations.CoreOp.TheVariants.{Bswap}
 use Rattle.row_table.specs.declared.operations.BitOp.{BitOp}
 use Rattle.row_table.specs.declared.operations.BitOp.TheVariants.{Bt, Bts, Btr, Btc, Popcnt, Bsf, Tzcnt, Bsr, Lzcnt, Andn, Blsr, Blsmsk, Blsi, Bzhi, Pext, Pdep, Bextr, Shlx, Sarx, Shrx, Rorx}
 use Rattle.bit_units.specs.Numbers.{masked}
-use Rattle.bit_units.specs.Shifts.{shl_value, shr_value, sar_value, ror_value}
+use Rattle.gpr_flags.specs.Shifts.{sar_value}
+use Rattle.bit_units.specs.Shifts.{shl_value, shr_value, ror_value}
 use Rattle.bit_units.specs.Picks.{extracted, deposited}
 
 -- ---- single bits: the place is taken modulo the width

@@ -5,6 +5,7 @@ use Rattle.std.specs.Prelude.{ℕ, ◌+◌, ◌-◌, ◌*◌, ◌/◌, ◌%◌, 
 use Rattle.gpr_flags.specs.declared.kinds.Flags.{Flags}
 use Rattle.gpr_flags.specs.Numbers.{has_bit, is_negative}
 use Rattle.gpr_flags.specs.Flags.{value_flags}
+use Rattle.gpr_flags.specs.Shifts.{sar_value, rotated}
 use Rattle.row_table.specs.declared.operations.Op.{Op}
 use Rattle.row_table.specs.declared.operations.Op.TheVariants.{Bit}
 use Rattle.row_table.specs.declared.operations.BitOp.{BitOp}
@@ -17,11 +18,6 @@ shl_value width a count = a * 2 ^ count % 2 ^ width
 
 abbrev pub shr_value : (a count : ℕ) → ℕ
 shr_value a count = a / 2 ^ count
-
--- the quotient is rounded down, so for a negative number the complement is shifted
-abbrev pub sar_value : (width a count : ℕ) → ℕ
-sar_value width a count =
-    if is_negative width a then 2 ^ width - 1 - (2 ^ width - 1 - a) / 2 ^ count else a / 2 ^ count
 
 -- OF where the count is 1
 abbrev pub overflow_at_one : (count : ℕ) → (overflow : Bool) → Flags → Bool
@@ -70,10 +66,6 @@ shrd_flags width a count value f = if nat_lt width count then f else value_flags
 })
 
 -- ---- rotates (SDM volume 2, RCL/RCR/ROL/ROR)
--- the low bits, as many as `low`, go to the top, and the others down to bit 0
-abbrev pub rotated : (width number low : ℕ) → ℕ
-rotated width number low = number % 2 ^ low * 2 ^ (width - low) + number / 2 ^ low
-
 abbrev pub rol_value : (width a count : ℕ) → ℕ
 rol_value width a count = rotated width a (width - count % width)
 

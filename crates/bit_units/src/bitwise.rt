@@ -13,9 +13,9 @@ use crate::scanning::{
     bsf_value, bsr_value, leading_zeros, popcnt_flags, popcnt_value, scan_flags, trailing_zeros,
     zeros_flags,
 };
-use crate::shifting::{sar_value, shl_value, shr_value};
+use crate::shifting::{shl_value, shr_value};
 use crate::single_bits::{bt_flags, btc_value, btr_value, bts_value};
-use gpr_flags::{Flags, low};
+use gpr_flags::{Flags, low, sar_value};
 use row_table::{BitOp, CoreOp, Op};
 
 /// The value by operation.

@@ -2,8 +2,7 @@
 ghost use Rattle.std.specs.Prelude.{◌≡◌, ◌/◌, ◌%◌, ◌^◌, ◌<◌, ◌≤◌};
 ghost use Rattle.bit_units.specs.Bits.{andn_value as value_of_andn, less_one as one_less, blsr_value as value_of_blsr, blsmsk_value as value_of_blsmsk, blsi_value as value_of_blsi, mask_flags as flags_of_mask, bzhi_value as value_of_bzhi, bextr_value as value_of_bextr, bextr_flags as flags_of_bextr, reversed as reversed_at};
 
-use crate::numbers::ones;
-use gpr_flags::{Flags, low, power};
+use gpr_flags::{Flags, low, ones, power};
 
 /// The number with its bytes in the other order, BSWAP and MOVBE.
 pub(crate) fn reversed(width: u32, a: u64) -> u64

@@ -1,16 +1,6 @@
-//! The number whose bits are all 1, and the low bits of a count.
-ghost use Rattle.std.specs.Prelude.{◌≡◌, ◌-◌, ◌^◌, ◌<◌, ◌≤◌};
+//! The low bits of a count.
+ghost use Rattle.std.specs.Prelude.{◌≡◌, ◌<◌};
 ghost use Rattle.bit_units.specs.Numbers.{masked as masked_to};
-
-use gpr_flags::power;
-
-/// The number of that width whose bits are all 1.
-pub(crate) fn ones(width: u32) -> u64
-    requires { width ≤ 64 }
-    ensures { result ≡ 2 ^ width - 1 }
-{
-    (power(width) - 1) as u64
-}
 
 /// A count's low five bits, or its low six for 64 bits.
 pub(crate) fn masked(width: u32, count: u64) -> u32

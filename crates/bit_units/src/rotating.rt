@@ -1,32 +1,10 @@
 //! Rotates: the value, and the flags by that value.
 ghost use Rattle.std.specs.Prelude.{◌≡◌, ◌+◌, ◌%◌, ◌^◌, ◌<◌, ◌≤◌};
 ghost use Rattle.gpr_flags.specs.Numbers.{has_bit as has_bit_of, is_negative as is_negative_of};
-ghost use Rattle.bit_units.specs.Shifts.{rotated as rotated_by, rol_value as value_of_rol, ror_value as value_of_ror, with_carry as with_carry_above, rcl_wide as wide_of_rcl, rcr_wide as wide_of_rcr, left_flags as flags_of_left, right_flags as flags_of_right};
+ghost use Rattle.bit_units.specs.Shifts.{rol_value as value_of_rol, ror_value as value_of_ror, with_carry as with_carry_above, rcl_wide as wide_of_rcl, rcr_wide as wide_of_rcr, left_flags as flags_of_left, right_flags as flags_of_right};
 
 use crate::shifting::overflow_at_one;
-use gpr_flags::{Flags, has_bit, is_negative, low, power};
-
-/// The low bits, as many as `to_top`, go to the top, and the others down to bit 0.
-fn rotated(width: u32, number: u128, to_top: u32) -> u128
-    requires most { width ≤ 65 }
-    requires number { number < 2 ^ width }
-    requires within { to_top ≤ width }
-    ensures value { result ≡ rotated_by width number to_top }
-    ensures fits { result < 2 ^ width }
-{
-    number % power(to_top) * power(width - to_top) + (number >> to_top)
-}
-
-/// The same of a number of at most 64 bits.
-fn rotated_number(width: u32, number: u64, to_top: u32) -> u64
-    requires most { width ≤ 64 }
-    requires number { number < 2 ^ width }
-    requires within { to_top ≤ width }
-    ensures value { result ≡ rotated_by width number to_top }
-    ensures fits { result < 2 ^ width }
-{
-    rotated(width, u128::from(number), to_top) as u64
-}
+use gpr_flags::{Flags, has_bit, is_negative, low, power, rotated, rotated_number};
 
 /// ROL.
 pub(crate) fn rol_value(width: u32, a: u64, count: u32) -> u64

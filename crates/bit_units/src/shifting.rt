@@ -2,14 +2,14 @@
 ghost use Rattle.std.specs.Prelude.{◌≡◌, ◌-◌, ◌*◌, ◌^◌, ◌<◌, ◌≤◌, if◌then◌else◌, nat_lt};
 ghost use Rattle.gpr_flags.specs.Numbers.{has_bit as has_bit_of, is_negative as is_negative_of};
 ghost use Rattle.bit_units.specs.Numbers.{differ};
-ghost use Rattle.bit_units.specs.Shifts.{shl_value as value_of_shl, shr_value as value_of_shr, sar_value as value_of_sar, shld_value as value_of_shld, shrd_value as value_of_shrd, shl_flags as flags_of_shl, shr_flags as flags_of_shr, sar_flags as flags_of_sar, shld_flags as flags_of_shld, shrd_flags as flags_of_shrd, overflow_at_one as overflow_of_one, shifted_value as value_shifted, shifted_flags as flags_shifted, value_of_shift, flags_of_shift, shift_value, shift_flags};
+ghost use Rattle.bit_units.specs.Shifts.{shl_value as value_of_shl, shr_value as value_of_shr, shld_value as value_of_shld, shrd_value as value_of_shrd, shl_flags as flags_of_shl, shr_flags as flags_of_shr, sar_flags as flags_of_sar, shld_flags as flags_of_shld, shrd_flags as flags_of_shrd, overflow_at_one as overflow_of_one, shifted_value as value_shifted, shifted_flags as flags_shifted, value_of_shift, flags_of_shift, shift_value, shift_flags};
 ghost use Rattle.row_table.specs.declared.operations.Op.TheVariants.{Bit};
 
-use crate::numbers::{masked, ones};
+use crate::numbers::masked;
 use crate::rotating::{
     rcl_flags, rcl_value, rcr_flags, rcr_value, rol_flags, rol_value, ror_flags, ror_value,
 };
-use gpr_flags::{Flags, has_bit, is_negative, low, power};
+use gpr_flags::{Flags, has_bit, is_negative, low, power, sar_value};
 use row_table::{BitOp, Op};
 
 /// SHL.
@@ -30,22 +30,6 @@ pub(crate) fn shr_value(width: u32, a: u64, count: u32) -> u64
     ensures fits { result < 2 ^ width }
 {
     a >> count
-}
-
-/// SAR.
-pub(crate) fn sar_value(width: u32, a: u64, count: u32) -> u64
-    requires some { 0 < width }
-    requires most { width ≤ 64 }
-    requires a { a < 2 ^ width }
-    requires small { count < 64 }
-    ensures value { result ≡ value_of_sar width a count }
-    ensures fits { result < 2 ^ width }
-{
-    if is_negative(width, a) {
-        ones(width) - ((ones(width) - a) >> count)
-    } else {
-        a >> count
-    }
 }
 
 /// A number of 64 bits shifted to the left, with nothing lost.

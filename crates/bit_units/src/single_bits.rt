@@ -2,8 +2,7 @@
 ghost use Rattle.std.specs.Prelude.{◌≡◌, ◌%◌, ◌^◌, ◌<◌, ◌≤◌};
 ghost use Rattle.bit_units.specs.Bits.{bts_value as value_of_bts, btr_value as value_of_btr, btc_value as value_of_btc, bt_flags as flags_of_bt};
 
-use crate::numbers::ones;
-use gpr_flags::{Flags, has_bit};
+use gpr_flags::{Flags, has_bit, ones};
 
 /// The place that a bit's number means.
 fn place(width: u32, b: u64) -> u32

@@ -6,11 +6,13 @@ mod gprs;
 mod kinds;
 mod numbers;
 mod registers;
+mod shifts;
 
 pub use gprs::Gprs;
 pub use kinds::{Fault, Flags};
 pub use numbers::{has_bit, is_negative, low, power};
 pub use registers::{R11, RAX, RBP, RBX, RCX, RDI, RDX, RSI, RSP};
+pub use shifts::{ones, rotated, rotated_number, sar_value};
 
 #[cfg(test)]
 mod tests;

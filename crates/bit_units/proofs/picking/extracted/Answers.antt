@@ -2,7 +2,7 @@ use Rattle.std.proofs.Common.{refl, arith, ◌∙◌, sym, ap, ◌+◌, ◌^◌,
 use Rattle.std.specs.Int.{bit_at}
 use Rattle.std.proofs.Math.Nat.{pow-suc}
 use Rattle.bit_units.specs.Picks.{picked, extracted}
-use Rattle.bit_units.proofs.Widths.{wider}
+use Rattle.gpr_flags.proofs.Widths.{wider}
 use Rattle.bit_units.proofs.PickLaws.{extracted_in, extracted_out, picked_in, picked_out}
 use Rattle.bit_units.proofs.picking.extracted.Goals as goal
 use Rattle.bit_units.proofs.picking.extracted.Goals.{then-has_bit, else-has_bit}

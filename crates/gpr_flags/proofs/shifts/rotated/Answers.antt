@@ -1,6 +1,6 @@
 use Rattle.std.proofs.Common.{arith}
-use Rattle.bit_units.proofs.Widths.{rotated_below, rotated_wide}
-use Rattle.bit_units.proofs.rotating.rotated.Goals as goal
+use Rattle.gpr_flags.proofs.Widths.{rotated_below, rotated_wide}
+use Rattle.gpr_flags.proofs.shifts.rotated.Goals as goal
 
 pub overflow_mul-result : goal.overflow_mul-result
 overflow_mul-result c = rw (c.power.ensures, c.power-2.ensures)
