@@ -1,2 +1,3 @@
+pub mod SignedBits
 pub mod Signs
 pub mod Widths
