@@ -1,0 +1,2 @@
+pub mod BitLogic
+pub mod Wrap
