@@ -11,18 +11,66 @@ struct Place {
 }
 
 static PLACES: [Place; 12] = [
-    Place { register: 0, byte: 0, component: 0x02 },
-    Place { register: 0, byte: 15, component: 0x02 },
-    Place { register: 15, byte: 15, component: 0x02 },
-    Place { register: 0, byte: 16, component: 0x04 },
-    Place { register: 15, byte: 16, component: 0x04 },
-    Place { register: 15, byte: 31, component: 0x04 },
-    Place { register: 0, byte: 32, component: 0x40 },
-    Place { register: 15, byte: 32, component: 0x40 },
-    Place { register: 15, byte: 63, component: 0x40 },
-    Place { register: 16, byte: 0, component: 0x80 },
-    Place { register: 16, byte: 63, component: 0x80 },
-    Place { register: 31, byte: 40, component: 0x80 },
+    Place {
+        register: 0,
+        byte: 0,
+        component: 0x02,
+    },
+    Place {
+        register: 0,
+        byte: 15,
+        component: 0x02,
+    },
+    Place {
+        register: 15,
+        byte: 15,
+        component: 0x02,
+    },
+    Place {
+        register: 0,
+        byte: 16,
+        component: 0x04,
+    },
+    Place {
+        register: 15,
+        byte: 16,
+        component: 0x04,
+    },
+    Place {
+        register: 15,
+        byte: 31,
+        component: 0x04,
+    },
+    Place {
+        register: 0,
+        byte: 32,
+        component: 0x40,
+    },
+    Place {
+        register: 15,
+        byte: 32,
+        component: 0x40,
+    },
+    Place {
+        register: 15,
+        byte: 63,
+        component: 0x40,
+    },
+    Place {
+        register: 16,
+        byte: 0,
+        component: 0x80,
+    },
+    Place {
+        register: 16,
+        byte: 63,
+        component: 0x80,
+    },
+    Place {
+        register: 31,
+        byte: 40,
+        component: 0x80,
+    },
 ];
 
 /// The components that can be kept, without x87.
@@ -76,7 +124,9 @@ fn start_is_initial(rt: HostRuntime) {
     assert_eq!(rt; *file.zmm(31), [0; 64]);
     assert_eq!(rt; file.k(7), 0);
     assert_eq!(rt; file.mxcsr(), 0x1F80);
-    assert_eq!(rt; file.x87()[..3], [0x7F, 0x03, 0x00]);
+    assert_eq!(rt; file.x87()[0], 0x7F);
+    assert_eq!(rt; file.x87()[1], 0x03);
+    assert_eq!(rt; file.x87()[2], 0);
     assert_eq!(rt; file.record().at, None);
 }
 
