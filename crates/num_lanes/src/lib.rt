@@ -4,10 +4,15 @@
 
 mod components;
 mod lanes;
+mod laws;
 mod parts;
 mod ranges;
 
 pub use components::{Components, Record};
 pub use lanes::{Vec64, get_lane, set_lane};
+pub use laws::lanes_law;
 pub use parts::Parts;
 pub use ranges::{clamp_signed, clamp_unsigned, sign};
+
+#[cfg(test)]
+mod tests;

@@ -7,3 +7,6 @@ mod values;
 
 pub use file::VecFile;
 pub use num_lanes::{Components, Parts, Record, Vec64};
+
+#[cfg(test)]
+mod tests;

@@ -1,14 +1,14 @@
-//! The values of state components, compared.
-ghost use Rattle.std.specs.Prelude.{◌≡◌, ◌==◌, ◌+◌, ◌≤◌, nat_eq, replicate, slice_range, if◌then◌else◌, pointwise};
+//! Values of state components.
+ghost use Rattle.std.specs.Prelude.{◌≡◌, ◌≤◌, nat_eq, replicate, slice_range, if◌then◌else◌};
+ghost use Rattle.std.specs.Cmp.Lexicographic.{pointwise};
 ghost use Rattle.std.specs.List.{list_all};
 ghost use Rattle.machine_state.specs.State.{initial_x87};
-ghost use Rattle.vec_file.specs.Changes.{changed_by as changed_by_of};
 
 use num_lanes::{Components, Vec64};
 
-/// The x87 state after FNINIT, with every field that FNINIT leaves 0 (SDM volume 1, 13.6).
+/// The x87 state of a new process: FCW is 037FH, and every other field 0 (SDM volume 1, 13.6).
 #[tactic(auto, unfolding(machine_state::specs::State::initial_x87))]
-pub(crate) fn initial_x87_bytes() -> [u8; 104]
+pub(crate) fn initial_fields() -> [u8; 104]
     ensures { result ≡ initial_x87 }
 {
     let mut x87 = [0; 104];
@@ -17,9 +17,29 @@ pub(crate) fn initial_x87_bytes() -> [u8; 104]
     x87
 }
 
-/// Thirty-two registers of zeros.
-pub(crate) fn initial_zmm() -> [Vec64; 32]
+/// Vector registers of zeros.
+pub(crate) fn initial_registers() -> [Vec64; 32]
     ensures { result ≡ replicate 32 (replicate 64 0) }
 {
     [[0; 64]; 32]
+}
+
+/// Whether registers are initial in the bytes from one place to another.
+pub(crate) fn are_initial(registers: &[Vec64], from: usize, to: usize) -> bool
+    requires order { from ≤ to }
+    requires most { to ≤ 64 }
+    ensures { result ≡ list_all (λ register. pointwise nat_eq (slice_range register from to) (slice_range (replicate 64 0) from to))
+        registers.now }
+{
+    registers
+        .iter()
+        .all(|register| register[from..to] == [0; 64][from..to])
+}
+
+/// The bit of a component that isn't the same as it was.
+pub(crate) fn bit_unless(same: bool, component: Components) -> u8
+    ensures value { result ≡ (if same then 0 else component.0) }
+    ensures most { result ≤ component.0 }
+{
+    if same { 0 } else { component.0 }
 }
