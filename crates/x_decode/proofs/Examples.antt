@@ -11,7 +11,7 @@ use Rattle.row_table.specs.Letters.{layout_of, letters}
 use Rattle.row_table.specs.Rows.{rows}
 use Rattle.row_table.specs.Matching.{fits, matched, shape_at, map_used}
 use Rattle.form_scan.specs.Front.{in_front}
-use Rattle.form_scan.specs.Payload.{of_rex}
+use Rattle.form_scan.specs.Payload.{of_rex, of_vex_two}
 use Rattle.form_scan.specs.Shaped.{within_limit, number_of, signed_of, fields_of}
 use Rattle.form_scan.specs.Reading.{after, lead_at, shaped_head, opcode_at, long_at, escape_at, vex_two_at, head_at, optional_at, chunk_at, tail_at, fields_at}
 use Rattle.form_scan.specs.Scanning.{scanned}
@@ -81,7 +81,7 @@ addps = refl
 
 -- C5 F8 77: VZEROUPPER, and the table has no row of VEX
 vzeroupper : seen (0xC5 ∷ 0xF8 ∷ 0x77 ∷ []) ≡ Bad
-unfolding seen scanned within_limit fields_at lead_at in_front after vex_two_at map_used head_at shaped_head of_rex shape_at tail_at optional_at chunk_at fields_of number_of signed_of spelled matched fits lock_fits operation_locks writes_rm layout_of letters rows legacy one_byte two_byte three_byte vex_rows vex_0f vex_0f38 vex_0f3a
+unfolding seen scanned within_limit fields_at lead_at in_front after vex_two_at map_used opcode_at head_at shaped_head of_rex of_vex_two shape_at tail_at optional_at chunk_at fields_of number_of signed_of spelled matched fits lock_fits operation_locks writes_rm layout_of letters rows legacy one_byte two_byte three_byte vex_rows vex_0f vex_0f38 vex_0f3a
 vzeroupper = refl
 
 -- F0 31 C0: XOR of a register, where LOCK may not stand
