@@ -1,6 +1,7 @@
 //! An operation on all lanes.
 ghost use Rattle.std.specs.Prelude.{◌≡◌, length, IsTrue};
-ghost use Rattle.num_lanes.specs.Lane.{LanesAre, IsWidth};
+ghost use Rattle.gpr_flags.specs.Registers.{is_size};
+ghost use Rattle.num_lanes.specs.Lane.{LanesAre};
 ghost use Rattle.lane_kernels.specs.LaneOps.{is_handled, IsLength, op_lane, lane_op};
 
 use crate::lane::{Common, one_lane};
@@ -37,7 +38,7 @@ fn apply_at<const W: usize>(
     second: &[u8],
     into: &mut [u8],
 )
-    requires width { IsWidth W }
+    requires width { IsTrue (is_size W) }
     requires length { IsLength (length into.old) }
     requires dest { length dest.now ≡ length into.old }
     requires first { length first.now ≡ length into.old }
@@ -69,7 +70,7 @@ pub fn apply(
     into: &mut [u8],
 )
     requires op { IsTrue (is_handled op) }
-    requires width { IsWidth width }
+    requires width { IsTrue (is_size width) }
     requires length { IsLength (length into.old) }
     requires dest { length dest.now ≡ length into.old }
     requires first { length first.now ≡ length into.old }

@@ -1,6 +1,7 @@
 //! One lane of an operation.
-ghost use Rattle.std.specs.Prelude.{◌≡◌, ◌+◌, ◌*◌, ◌/◌, ◌%◌, ◌^◌, ◌<◌, ◌≤◌, length};
-ghost use Rattle.num_lanes.specs.Lane.{lane_of, IsWidth};
+ghost use Rattle.std.specs.Prelude.{◌≡◌, ◌+◌, ◌*◌, ◌/◌, ◌%◌, ◌^◌, ◌<◌, ◌≤◌, length, IsTrue};
+ghost use Rattle.gpr_flags.specs.Registers.{is_size};
+ghost use Rattle.num_lanes.specs.Lane.{lane_of};
 ghost use Rattle.lane_kernels.specs.LaneOps.{IsLength, lane_raw};
 
 use crate::bitwise::ternary;
@@ -21,7 +22,7 @@ pub(crate) struct Common {
 
 /// The second operand's lane of the pair that `lane` is in: its lower one, or its upper one.
 fn of_pair<const W: usize>(second: &[u8], lane: usize, upper: usize) -> u64
-    requires width { IsWidth W }
+    requires width { IsTrue (is_size W) }
     requires length { IsLength (length second.now) }
     requires in_range { lane * W + W ≤ length second.now }
     requires upper { upper < 2 }
@@ -40,7 +41,7 @@ pub(crate) fn one_lane<const W: usize>(
     second: &[u8],
     lane: usize,
 ) -> u64
-    requires width { IsWidth W }
+    requires width { IsTrue (is_size W) }
     requires length { IsLength (length second.now) }
     requires dest { length dest.now ≡ length second.now }
     requires first { length first.now ≡ length second.now }

@@ -1,0 +1,11 @@
+//! What a vector instruction gives: a register, with mask, zeroing and upper bits, or a mask of bits.
+#![tactic(auto)]
+
+mod bit_masks;
+mod computing;
+mod forms;
+mod masked;
+mod results;
+
+pub use forms::{Form, form_for};
+pub use results::{bits, mask_result, result, vector};

@@ -1,0 +1,87 @@
+//! The register that comes of the lanes that were computed: with mask, zeroing and upper bits.
+ghost use Rattle.std.specs.Prelude.{◌≡◌, ◌*◌, ◌/◌, ◌+◌, ◌<◌, ◌≤◌, ◌^◌, if◌then◌else◌, ℕ, IsTrue};
+ghost use Rattle.gpr_flags.specs.Registers.{is_size};
+ghost use Rattle.num_lanes.specs.Lane.{lane_of, joined};
+ghost use Rattle.vec_units.specs.Form.{FormFits};
+ghost use Rattle.vec_units.specs.Results.{merged as merged_of, left_out as left_out_of, placed_lane};
+
+use crate::forms::Form;
+use gpr_flags::has_bit;
+use num_lanes::{Vec64, get_lane, set_lane};
+use row_table::MaskKind;
+
+/// What stood in a lane, or 0.
+fn merged(zeroing: bool, old: u64) -> u64
+    ensures { result ≡ merged_of zeroing old }
+{
+    if zeroing { 0 } else { old }
+}
+
+/// What stands in a lane that is masked out.
+fn left_out(masking: MaskKind, zeroing: bool, old: u64, first: u64) -> u64
+    ensures value { result ≡ left_out_of masking zeroing old first }
+    ensures small { (n : ℕ) → 0 < n → old < n → first < n → result < n }
+{
+    match masking {
+        MaskKind::Blend => merged(zeroing, first),
+        MaskKind::SignsZero => 0,
+        MaskKind::NoMask
+        | MaskKind::MergeZero
+        | MaskKind::ToMask
+        | MaskKind::Compress
+        | MaskKind::Required
+        | MaskKind::Signs => merged(zeroing, old),
+    }
+}
+
+/// A lane of the register.
+#[tactic(auto, unfolding(crate::specs::Results::placed_lane))]
+fn placed<const W: usize>(
+    f: &Form,
+    computed: &Vec64,
+    dest: &Vec64,
+    first: &Vec64,
+    mask: u64,
+    lane: usize,
+) -> u64
+    requires some { 0 < W }
+    requires most { W ≤ 8 }
+    requires lane { lane < 64 }
+    requires in_range { lane * W + W ≤ 64 }
+    ensures value { result ≡ placed_lane W f.now (lane_of W computed.now) (lane_of W dest.now) (lane_of W first.now) mask lane }
+    ensures small { result < 2 ^ (8 * W) }
+{
+    let old = get_lane::<W>(dest, lane);
+    if lane < usize::from(f.lanes) {
+        if has_bit(mask, lane as u32) {
+            get_lane::<W>(computed, lane)
+        } else {
+            left_out(f.masking, f.zeroing, old, get_lane::<W>(first, lane))
+        }
+    } else if lane < usize::from(f.len) / W {
+        0
+    } else if f.keeps {
+        old
+    } else {
+        0
+    }
+}
+
+/// The register, by the lanes that were computed.
+pub(crate) fn register<const W: usize>(
+    f: &Form,
+    computed: &Vec64,
+    dest: &Vec64,
+    first: &Vec64,
+    mask: u64,
+) -> Vec64
+    requires { IsTrue (is_size W) }
+    ensures { result ≡ joined W (64 / W) (placed_lane W f.now (lane_of W computed.now) (lane_of W dest.now) (lane_of W first.now) mask) }
+{
+    let mut out = [0u8; 64];
+    for lane in 0..64 / W {
+        let value = placed::<W>(f, computed, dest, first, mask, lane);
+        set_lane::<W>(&mut out, lane, value);
+    }
+    out
+}
