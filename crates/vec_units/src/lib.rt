@@ -9,3 +9,6 @@ mod results;
 
 pub use forms::{Form, form_for};
 pub use results::{bits, mask_result, result, vector};
+
+#[cfg(test)]
+mod tests;

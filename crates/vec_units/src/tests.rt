@@ -1,0 +1,157 @@
+//! Registers and masks of bits, by their forms.
+ghost use Rattle.std.specs.Prelude.{IsTrue};
+ghost use Rattle.vec_units.specs.Form.{FormFits};
+
+use crate::{Form, bits, vector};
+use num_lanes::Vec64;
+use row_table::{LaneOp, MaskKind, Op, VectorOp};
+
+/// PADDB of vectors of 16 bytes.
+const SUM: Form = Form {
+    op: Op::Lane(LaneOp::Padd),
+    width: 1,
+    lanes: 16,
+    len: 16,
+    imm: 0,
+    masking: MaskKind::MergeZero,
+    zeroing: false,
+    keeps: false,
+};
+
+#[tactic(auto, unfolding(crate::specs::Compute::is_vector))]
+fn fits(f: &Form) -> bool
+    ensures { IsTrue result → FormFits f.now }
+{
+    matches!(f.op, Op::Lane(_) | Op::Vector(_))
+        && (f.width == 1 || f.width == 8)
+        && (f.len == 16 || f.len == 32)
+        && u32::from(f.lanes) * u32::from(f.width) <= u32::from(f.len)
+}
+
+fn register(f: Form, dest: &Vec64, first: &Vec64, second: &Vec64, mask: u64) -> Option<Vec64> {
+    if fits(&f) {
+        Some(vector(&f, dest, first, second, mask))
+    } else {
+        None
+    }
+}
+
+fn mask_of(f: Form, dest: &Vec64, second: &Vec64, mask: u64) -> Option<u64> {
+    if fits(&f) {
+        Some(bits(&f, dest, &[0; 64], second, mask))
+    } else {
+        None
+    }
+}
+
+/// Bytes that are alike up to a place, and alike from it on.
+fn bytes(below: u8, place: usize, above: u8) -> Vec64 {
+    let mut v = [above; 64];
+    if place <= 64 {
+        v[..place].fill(below);
+    }
+    v
+}
+
+#[test]
+fn bytes_above_the_vectors_are_cleared_or_kept(rt: HostRuntime) {
+    let dest = [7; 64];
+    let (first, second) = ([0xF0; 64], [0x12; 64]);
+    let legacy = Form { keeps: true, ..SUM };
+    let wide = Form {
+        lanes: 32,
+        len: 32,
+        ..SUM
+    };
+    let few = Form { lanes: 4, ..SUM };
+    let kept = Form { keeps: true, ..few };
+    let all = u64::MAX;
+    assert_eq!(rt;
+        register(SUM, &dest, &first, &second, all),
+        Some(bytes(2, 16, 0))
+    );
+    assert_eq!(rt;
+        register(legacy, &dest, &first, &second, all),
+        Some(bytes(2, 16, 7))
+    );
+    assert_eq!(rt;
+        register(wide, &dest, &first, &second, all),
+        Some(bytes(2, 32, 0))
+    );
+    assert_eq!(rt;
+        register(few, &dest, &first, &second, all),
+        Some(bytes(2, 4, 0))
+    );
+    let mut want = bytes(2, 4, 7);
+    want[4..16].fill(0);
+    assert_eq!(rt; register(kept, &dest, &first, &second, all), Some(want));
+}
+
+#[test]
+fn lanes_that_are_masked_out_stay_or_are_cleared(rt: HostRuntime) {
+    let dest = [7; 64];
+    let (first, second) = ([0xF0; 64], [0x12; 64]);
+    let zeroing = Form {
+        zeroing: true,
+        ..SUM
+    };
+    let blend = Form {
+        masking: MaskKind::Blend,
+        ..SUM
+    };
+    let signs = Form {
+        masking: MaskKind::SignsZero,
+        ..SUM
+    };
+    for (form, left_out) in [(SUM, 7), (zeroing, 0), (blend, 0xF0), (signs, 0)] {
+        let mut want = bytes(left_out, 16, 0);
+        want[1] = 2;
+        want[15] = 2;
+        assert_eq!(rt;
+            register(form, &dest, &first, &second, 0x1_8002),
+            Some(want)
+        );
+    }
+}
+
+#[test]
+fn signs_of_lanes_are_bits(rt: HostRuntime) {
+    let moved = Form {
+        op: Op::Vector(VectorOp::Pmovmskb),
+        ..SUM
+    };
+    let doubles = Form {
+        op: Op::Vector(VectorOp::Movmskp),
+        width: 8,
+        lanes: 4,
+        len: 32,
+        ..SUM
+    };
+    let mut second = bytes(0x80, 3, 0x7F);
+    second[15] = 0xFF;
+    second[31] = 0x80;
+    assert_eq!(rt; mask_of(moved, &[0; 64], &second, u64::MAX), Some(0x8007));
+    assert_eq!(rt; mask_of(doubles, &[0; 64], &second, u64::MAX), Some(0xA));
+    assert_eq!(rt; mask_of(doubles, &[0; 64], &second, 8), Some(8));
+}
+
+#[test]
+fn ptest_says_what_is_in_common_and_beyond(rt: HostRuntime) {
+    let test = Form {
+        op: Op::Vector(VectorOp::Ptest),
+        width: 8,
+        lanes: 2,
+        ..SUM
+    };
+    let mut above = [0; 64];
+    above[16..].fill(1);
+    for (register, second, want) in [
+        ([0; 64], [0; 64], 3),
+        ([1; 64], [1; 64], 2),
+        ([0xF0; 64], [0x0F; 64], 1),
+        ([0xF1; 64], [0x0F; 64], 0),
+        ([0; 64], above, 3),
+    ] {
+        assert_eq!(rt; mask_of(test, &register, &second, u64::MAX), Some(want));
+    }
+}
