@@ -6,7 +6,7 @@ use Rattle.std.specs.Int.{bit_at}
 use Rattle.row_table.specs.declared.operations.Op.{Op}
 use Rattle.row_table.specs.declared.operations.Op.TheVariants.{Core, Gpr, Bit, String, Lane, Cross, Width, Mac, Mask, Vector, Gather, Xsave}
 use Rattle.row_table.specs.declared.operations.LaneOp.{LaneOp}
-use Rattle.row_table.specs.declared.operations.LaneOp.TheVariants.{Padd, Psub, Padds, Paddus, Psubs, Psubus, Pavg, Pminu, Pmaxu, Pmins, Pmaxs, Pand, Pandn, Por, Pxor, Psign, Pabs, Pcmpeq, Pcmpgt, Vpcmpu, Vpcmp, Vptestm, Vptestnm, Psrl, Psra, Psll, Vpsrlv, Vpsrav, Vpsllv, Vpror, Vprol, Vprorv, Vprolv, Vpternlog, Andp, Andnp, Orp, Xorp, Movdqa, Movdqu, Movap, Movup, Movntp, Movntdq, Movntdqa, Lddqu, Movd, Movq, Movss, Movsd, Movlp, Movhp, Movhlps, Movlhps, Movddup, Movsldup, Movshdup, Vpmaskmov, Vmaskmov}
+use Rattle.row_table.specs.declared.operations.LaneOp.TheVariants.{Padd, Psub, Padds, Paddus, Psubs, Psubus, Pavg, Pminu, Pmaxu, Pmins, Pmaxs, Pand, Pandn, Por, Pxor, Psign, Pabs, Pcmpeq, Pcmpgt, Vpcmpu, Vpcmp, Vptestm, Vptestnm, Psrl, Psra, Psll, Vpsrlv, Vpsrav, Vpsllv, Vpror, Vprol, Vprorv, Vprolv, Vpternlog, Andp, Andnp, Orp, Xorp, Movdqa, Movdqu, Movap, Movup, Movntp, Movntdq, Movntdqa, Lddqu, Movd, Movq, Movss, MovssLoad, Movsd, MovsdLoad, Movlp, Movhp, MovhpStore, Movhlps, Movlhps, Movddup, Movsldup, Movshdup, Vpmaskmov, Vmaskmov}
 use Rattle.gpr_flags.specs.Numbers.{is_negative, signed_of}
 use Rattle.gpr_flags.specs.Shifts.{sar_value, rotated}
 use Rattle.num_lanes.specs.Lane.{lane_of}
@@ -130,12 +130,15 @@ lane_raw Movntp n imm d a b count i = b i
 lane_raw Movntdq n imm d a b count i = b i
 lane_raw Movntdqa n imm d a b count i = b i
 lane_raw Lddqu n imm d a b count i = b i
-lane_raw Movd n imm d a b count i = b i
-lane_raw Movq n imm d a b count i = b i
+lane_raw Movd n imm d a b count i = if i == 0 then b i else 0
+lane_raw Movq n imm d a b count i = if i == 0 then b i else 0
 lane_raw Movss n imm d a b count i = if i == 0 then b i else a i
+lane_raw MovssLoad n imm d a b count i = if i == 0 then b i else 0
 lane_raw Movsd n imm d a b count i = if i == 0 then b i else a i
+lane_raw MovsdLoad n imm d a b count i = if i == 0 then b i else 0
 lane_raw Movlp n imm d a b count i = if i == 0 then b i else a i
 lane_raw Movhp n imm d a b count i = if i == 0 then a i else b (i - 1)
+lane_raw MovhpStore n imm d a b count i = b 1
 lane_raw Movhlps n imm d a b count i = if i == 0 then b 1 else a i
 lane_raw Movlhps n imm d a b count i = if i == 0 then a i else b (i - 1)
 lane_raw Movddup n imm d a b count i = b (i / 2 * 2)

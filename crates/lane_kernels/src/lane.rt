@@ -96,11 +96,13 @@ pub(crate) fn one_lane<const W: usize>(
         | LaneOp::Movntdq
         | LaneOp::Movntdqa
         | LaneOp::Lddqu
-        | LaneOp::Movd
-        | LaneOp::Movq
         | LaneOp::Vpmaskmov
         | LaneOp::Vmaskmov => b,
+        LaneOp::Movd | LaneOp::Movq | LaneOp::MovssLoad | LaneOp::MovsdLoad => {
+            choose(lane == 0, b, 0)
+        }
         LaneOp::Movss | LaneOp::Movsd | LaneOp::Movlp => choose(lane == 0, b, a),
+        LaneOp::MovhpStore => get_lane::<W>(second, 1),
         LaneOp::Movhlps => choose(lane == 0, get_lane::<W>(second, 1), a),
         LaneOp::Movhp | LaneOp::Movlhps => {
             choose(lane == 0, a, get_lane::<W>(second, lane.saturating_sub(1)))

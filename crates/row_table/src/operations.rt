@@ -213,11 +213,18 @@ pub enum LaneOp {
     /// Between a vector register and a general register or memory of 32 or 64 bits.
     Movd,
     Movq,
+    /// MOVSS between registers, and to memory.
     Movss,
+    /// MOVSS from memory.
+    MovssLoad,
     Movsd,
+    MovsdLoad,
     /// MOVLPS and MOVLPD.
     Movlp,
+    /// MOVHPS and MOVHPD from memory.
     Movhp,
+    /// MOVHPS and MOVHPD to memory.
+    MovhpStore,
     Movhlps,
     Movlhps,
     Movddup,
