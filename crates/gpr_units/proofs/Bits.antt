@@ -1,9 +1,8 @@
 -- Powers of two, and halves of numbers.
-use Rattle.std.proofs.Common.{◌≡◌, ℕ, ℤ, pos, negsuc, suc, ◌+◌, ◌-◌, ◌*◌, ◌/◌, ◌%◌, ◌^◌, ◌<◌, ◌≤◌, refl, ap, sym, ◌∙◌, arith, of_z, FitsSigned}
-use Rattle.std.specs.Int.{w128}
-use Rattle.std.proofs.Math.Nat.{one-le-pow, add-mul-mod_self_left, div-add-mod, mul-le-mul_left, mul-sub, mul-suc, mul_comm, pow-le-pow_right, mod-eq_of_lt}
+use Rattle.std.proofs.Common.{◌≡◌, ℕ, suc, ◌+◌, ◌-◌, ◌*◌, ◌/◌, ◌%◌, ◌^◌, ◌<◌, ◌≤◌, ap, sym, ◌∙◌, arith}
+use Rattle.std.proofs.Math.Nat.{mul-le-mul_left, mul-suc, mul_comm, pow-le-pow_right}
 use Rattle.std.proofs.Math.Pow.{mod-mod-pow}
-use Rattle.std.proofs.lemmas.Nat.{pow-add, div_below, mod_below, mod-pow-add, div-mul-add, pow_below}
+use Rattle.std.proofs.lemmas.Nat.{pow-add, mod_below, mod-pow-add, div-mul-add, pow_below}
 use Rattle.gpr_flags.proofs.SignedBits.{power-some}
 
 pub one_small : (n : ℕ) → 0 < n → 1 < 2 ^ n

@@ -1,5 +1,5 @@
 -- Which components another value of a register changes.
-use Rattle.std.proofs.Common.{◌≡◌, ℕ, zero, suc, ◌+◌, ◌-◌, ◌<◌, ◌≤◌, Bool, true, false, not, ◌&&◌, List, [], ◌∷◌, length, get_or, set, take, drop, map, replicate, refl, ap, sym, ◌∙◌, arith, length-drop, length-take}
+use Rattle.std.proofs.Common.{◌≡◌, ℕ, zero, suc, ◌+◌, ◌-◌, ◌<◌, ◌≤◌, Bool, true, false, not, ◌&&◌, List, [], ◌∷◌, length, get_or, set, take, drop, replicate, refl, ap, sym, ◌∙◌, arith, length-drop, length-take}
 use Rattle.std.specs.Prelude.{if◌then◌else◌, nat_eq, slice_range, slice_set, ◌==◌, ◌||◌}
 use Rattle.std.specs.List.{list_all}
 use Rattle.std.specs.Cmp.Lexicographic.{pointwise, bytes_decides}
@@ -7,7 +7,7 @@ use Rattle.std.specs.Cmp.Derive.Mapped.{pointwise-map}
 use Rattle.std.proofs.Math.Seq.{take-set-lt, take-set-le, drop-set-lt, drop-set-add}
 use Rattle.std.proofs.Math.Seq.{get_or-take, get_or-drop}
 use Rattle.machine_state.specs.State.{Extended, initial_extended, initial_x87}
-use Rattle.num_lanes.specs.Components.{components, parts, component_value, component_set, is_same, changed, in_use_of}
+use Rattle.num_lanes.specs.Components.{parts, component_value, component_set, is_same, changed, in_use_of}
 
 -- ---- lists
 and-true : (b : Bool) → (b && true) ≡ b

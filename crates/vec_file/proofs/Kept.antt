@@ -1,5 +1,5 @@
 -- What the setters leave of the kept set.
-use Rattle.std.proofs.Common.{◌≡◌, ℕ, ◌+◌, ◌/◌, ◌%◌, ◌^◌, ◌==◌, ◌<◌, Bool, false, ap, ◌∙◌, arith, bit_and}
+use Rattle.std.proofs.Common.{◌≡◌, ℕ, ◌%◌, false, ap, ◌∙◌, arith, bit_and}
 use Rattle.std.specs.Int.Bits.{and_zero_l}
 use Rattle.std.proofs.lemmas.Nat.{and_mod, and_le_l}
 use Rattle.std.proofs.Math.Nat.{div-one}

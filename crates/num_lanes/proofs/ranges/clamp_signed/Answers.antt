@@ -1,4 +1,4 @@
-use Rattle.std.proofs.Common.{arith, ◌≡◌, ◌-◌, ◌*◌, ◌%◌, ◌^◌, ℤ, ℕ, pos, ap, ◌∙◌, refl}
+use Rattle.std.proofs.Common.{◌-◌, ◌^◌, ap, ◌∙◌, refl}
 use Rattle.std.specs.Int.{w128}
 use Rattle.std.proofs.lemmas.Int.{to_z-of_z}
 use Rattle.gpr_flags.specs.Numbers.{low_of}

@@ -1,4 +1,4 @@
-use Rattle.std.proofs.Common.{◌<◌, ◌∙◌, sym, arith}
+use Rattle.std.proofs.Common.{◌∙◌, sym, arith}
 use Rattle.machine_state.specs.State.{Extended}
 use Rattle.vec_file.specs.File.{extended_of}
 use Rattle.vec_file.proofs.Changes.{changed-opmask}

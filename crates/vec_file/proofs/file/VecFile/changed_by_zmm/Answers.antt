@@ -1,4 +1,4 @@
-use Rattle.std.proofs.Common.{◌≡◌, ◌+◌, ◌<◌, ◌≤◌, ◌∙◌, sym, ap, arith}
+use Rattle.std.proofs.Common.{◌+◌, ◌∙◌, sym, ap, arith}
 use Rattle.machine_state.specs.State.{Extended}
 use Rattle.vec_file.specs.File.{extended_of}
 use Rattle.vec_file.proofs.Changes.{bit_unless_of, changed-low, changed-high}

@@ -1,4 +1,4 @@
-use Rattle.std.proofs.Common.{◌≡◌, ◌+◌, ◌∙◌, sym, ap}
+use Rattle.std.proofs.Common.{◌+◌, ◌∙◌, sym, ap}
 use Rattle.std.specs.Prelude.{nat_eq, slice_range}
 use Rattle.std.specs.Cmp.Lexicographic.{pointwise}
 use Rattle.machine_state.specs.State.{Extended}

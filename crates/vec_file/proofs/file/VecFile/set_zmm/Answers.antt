@@ -1,4 +1,4 @@
-use Rattle.std.proofs.Common.{◌≡◌, ◌-◌, ◌<◌, length-set, ◌∙◌}
+use Rattle.std.proofs.Common.{◌-◌, ◌<◌, length-set, ◌∙◌}
 use Rattle.std.proofs.lemmas.List.Elements.{All-set, All-from_get_or}
 use Rattle.machine_state.specs.State.{IsVector}
 use Rattle.num_lanes.specs.Setters.{restored_of}
