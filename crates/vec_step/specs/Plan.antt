@@ -1,0 +1,235 @@
+-- A vector instruction with its operands found, and what it accesses.
+use Rattle.std.specs.Prelude.{ℕ, ◌-◌, ◌*◌, ◌/◌, ◌%◌, ◌^◌, ◌==◌, Bool, true, false, not, ◌||◌, if◌then◌else◌, List, [], ◌∷◌, ◌++◌, Option, Some, None, slice_index}
+use Rattle.machine_state.specs.declared.kinds.Kind.{Kind}
+use Rattle.machine_state.specs.declared.kinds.Kind.TheVariants.{Read, Write}
+use Rattle.machine_state.specs.declared.kinds.Access.{Access}
+use Rattle.row_table.specs.declared.kinds.Row.{Row}
+use Rattle.row_table.specs.declared.kinds.Fields.{Fields}
+use Rattle.row_table.specs.declared.kinds.Tuple.{Tuple}
+use Rattle.row_table.specs.declared.kinds.Tuple.TheVariants.{NoTuple, Full, Half, FullMem, HalfMem, QuarterMem, EighthMem, Mem128, T1S, T2, T4, T8}
+use Rattle.row_table.specs.declared.kinds.Spot.{Spot}
+use Rattle.row_table.specs.declared.kinds.Spot.TheVariants.{Absent, Reg, Rm, Vvvv, OpcodeReg, Rax, Cl, Memory as InMemory, VectorMemory, Offset, Immediate, Relative, One, VectorReg, VectorRm, VectorVvvv, VectorImmediate, Xmm0, OpmaskReg, OpmaskRm, OpmaskVvvv}
+use Rattle.row_table.specs.declared.kinds.Layout.{Layout}
+use Rattle.row_table.specs.Letters.{layout_of}
+use Rattle.row_table.specs.declared.operations.Op.{Op}
+use Rattle.row_table.specs.declared.operations.Op.TheVariants.{Core, Gpr, Bit, String, Lane, Cross, Width, Mac, Mask as OnMasks, Vector, Gather, Xsave}
+use Rattle.row_table.specs.declared.operations.VectorOp.{VectorOp}
+use Rattle.row_table.specs.declared.operations.VectorOp.TheVariants.{Ptest, Pmovmskb, Movmskp}
+use Rattle.vec_units.specs.declared.forms.Form.{Form}
+use Rattle.vec_units.specs.Form.{form_of}
+use Rattle.masked_memory.specs.Lanes.{lane_accesses}
+use Rattle.vec_step.specs.declared.kinds.Spots.{Spots}
+use Rattle.vec_step.specs.declared.kinds.Places.{Places}
+use Rattle.vec_step.specs.declared.kinds.Span.{Span}
+use Rattle.vec_step.specs.declared.kinds.Source.{Source}
+use Rattle.vec_step.specs.declared.kinds.Source.TheVariants.{Register as FromRegister, General as FromGeneral, Count, Memory as FromMemory, Whole, Nothing}
+use Rattle.vec_step.specs.declared.kinds.Target.{Target}
+use Rattle.vec_step.specs.declared.kinds.Target.TheVariants.{Register as ToRegister, Memory as ToMemory, Mask as ToMask, General as ToGeneral, Flags as ToFlags, Nowhere}
+use Rattle.vec_step.specs.declared.kinds.VectorPlan.{VectorPlan}
+
+-- ---- the places of a list of operands (SDM volume 2, 3.1.1.4)
+abbrev pub is_absent : Spot → Bool
+is_absent Absent = true
+is_absent spot = false
+
+abbrev pub is_immediate : Spot → Bool
+is_immediate Immediate = true
+is_immediate spot = false
+
+abbrev pub is_vvvv : Spot → Bool
+is_vvvv VectorVvvv = true
+is_vvvv spot = false
+
+-- a list has two sources beside the destination where a third place is there that is no immediate, or where the destination is in
+-- vvvv, as in shifts by an immediate; else the destination is the first source, too
+abbrev pub has_two_sources : Layout → Bool
+has_two_sources layout =
+    is_vvvv layout.first.spot || not (is_absent layout.third.spot || is_immediate layout.third.spot)
+
+unfoldable pub spots_of : Layout → Spots
+spots_of layout = record {
+  destination = layout.first.spot;
+  first = if has_two_sources layout then layout.second.spot else layout.first.spot;
+  second = if has_two_sources layout then layout.third.spot else layout.second.spot;
+}
+
+-- the number of the register in a place
+unfoldable pub number_in : Spot → Places → ℕ
+number_in Reg p = p.reg
+number_in VectorReg p = p.reg
+number_in OpmaskReg p = p.reg
+number_in Vvvv p = p.vvvv
+number_in VectorVvvv p = p.vvvv
+number_in OpmaskVvvv p = p.vvvv
+number_in Rm p = p.rm
+number_in VectorRm p = p.rm
+number_in OpmaskRm p = p.rm
+number_in Absent p = 0
+number_in OpcodeReg p = 0
+number_in Rax p = 0
+number_in Cl p = 0
+number_in InMemory p = 0
+number_in VectorMemory p = 0
+number_in Offset p = 0
+number_in Immediate p = 0
+number_in Relative p = 0
+number_in One p = 0
+number_in VectorImmediate p = 0
+number_in Xmm0 p = 0
+
+-- that of a vector register, below 32, of a general register, below 16, and of an opmask, below 8
+abbrev pub vector_in : Spot → Places → ℕ
+vector_in spot p = number_in spot p % 32
+
+abbrev pub general_in : Spot → Places → ℕ
+general_in spot p = number_in spot p % 16
+
+abbrev pub opmask_in : Spot → Places → ℕ
+opmask_in spot p = number_in spot p % 8
+
+-- ---- lanes in memory
+-- how many of so many bytes a row's operand has, of vectors of `len` bytes (SDM volume 2, tables 2-34 and 2-35); legacy and VEX rows
+-- without a tuple have whole vectors
+unfoldable pub tuple_lanes : Tuple → (width len : ℕ) → ℕ
+tuple_lanes NoTuple width len = len / width
+tuple_lanes Full width len = len / width
+tuple_lanes FullMem width len = len / width
+tuple_lanes Half width len = len / 2 / width
+tuple_lanes HalfMem width len = len / 2 / width
+tuple_lanes QuarterMem width len = len / 4 / width
+tuple_lanes EighthMem width len = len / 8 / width
+tuple_lanes Mem128 width len = 16 / width
+tuple_lanes T1S width len = 1
+tuple_lanes T2 width len = 2
+tuple_lanes T4 width len = 4
+tuple_lanes T8 width len = 8
+
+abbrev pub lanes_in : Row → Form → ℕ
+lanes_in row f = tuple_lanes row.tuple f.width f.len
+
+abbrev pub span_of : Row → Form → (mask addr : ℕ) → Span
+span_of row f mask addr = record { addr = addr; width = f.width; lanes = lanes_in row f; mask = mask }
+
+-- the mask that an instruction names, or all lanes (SDM volume 1, 15.6.1)
+abbrev pub mask_in : Fields → List ℕ → ℕ
+mask_in fields k = if fields.aaa == 0 then 2 ^ 64 - 1 else slice_index k (fields.aaa % 8)
+
+-- ---- the second operand
+-- a row that reads its operand whole makes one access of it
+abbrev pub memory_source : Row → Form → (mask addr : ℕ) → Source
+memory_source row f mask addr = if row.whole then Whole addr (lanes_in row f * f.width) else FromMemory (span_of row f mask addr)
+
+abbrev pub source_or : Source → Row → Form → (mask : ℕ) → Option ℕ → Source
+source_or register row f mask None = register
+source_or register row f mask (Some addr) = memory_source row f mask addr
+
+unfoldable pub source_in : Spot → Row → Form → (mask : ℕ) → Places → Source
+source_in VectorReg row f mask p = FromRegister (vector_in VectorReg p)
+source_in VectorVvvv row f mask p = FromRegister (vector_in VectorVvvv p)
+source_in VectorRm row f mask p = source_or (FromRegister (vector_in VectorRm p)) row f mask p.memory
+source_in Rm row f mask p = source_or (FromGeneral (general_in Rm p)) row f mask p.memory
+source_in InMemory row f mask p = source_or Nothing row f mask p.memory
+source_in Reg row f mask p = FromGeneral (general_in Reg p)
+source_in Immediate row f mask p = Count f.imm
+source_in Absent row f mask p = Nothing
+source_in Vvvv row f mask p = Nothing
+source_in OpcodeReg row f mask p = Nothing
+source_in Rax row f mask p = Nothing
+source_in Cl row f mask p = Nothing
+source_in VectorMemory row f mask p = Nothing
+source_in Offset row f mask p = Nothing
+source_in Relative row f mask p = Nothing
+source_in One row f mask p = Nothing
+source_in VectorImmediate row f mask p = Nothing
+source_in Xmm0 row f mask p = Nothing
+source_in OpmaskReg row f mask p = Nothing
+source_in OpmaskRm row f mask p = Nothing
+source_in OpmaskVvvv row f mask p = Nothing
+
+-- ---- the destination
+abbrev pub target_or : Target → Row → Form → (mask : ℕ) → Option ℕ → Target
+target_or register row f mask None = register
+target_or register row f mask (Some addr) = ToMemory (span_of row f mask addr)
+
+unfoldable pub target_in : Spot → Row → Form → (mask : ℕ) → Places → Target
+target_in VectorReg row f mask p = ToRegister (vector_in VectorReg p)
+target_in VectorVvvv row f mask p = ToRegister (vector_in VectorVvvv p)
+target_in VectorRm row f mask p = target_or (ToRegister (vector_in VectorRm p)) row f mask p.memory
+target_in Rm row f mask p = target_or (ToGeneral (general_in Rm p)) row f mask p.memory
+target_in InMemory row f mask p = target_or Nowhere row f mask p.memory
+target_in Reg row f mask p = ToGeneral (general_in Reg p)
+target_in OpmaskReg row f mask p = ToMask (opmask_in OpmaskReg p)
+target_in Absent row f mask p = Nowhere
+target_in Vvvv row f mask p = Nowhere
+target_in OpcodeReg row f mask p = Nowhere
+target_in Rax row f mask p = Nowhere
+target_in Cl row f mask p = Nowhere
+target_in VectorMemory row f mask p = Nowhere
+target_in Offset row f mask p = Nowhere
+target_in Immediate row f mask p = Nowhere
+target_in Relative row f mask p = Nowhere
+target_in One row f mask p = Nowhere
+target_in VectorImmediate row f mask p = Nowhere
+target_in Xmm0 row f mask p = Nowhere
+target_in OpmaskRm row f mask p = Nowhere
+target_in OpmaskVvvv row f mask p = Nowhere
+
+-- PTEST gives flags; its first operand is only read
+unfoldable pub gives_flags : Op → Bool
+gives_flags (Vector Ptest) = true
+gives_flags (Vector Pmovmskb) = false
+gives_flags (Vector Movmskp) = false
+gives_flags (Lane op) = false
+gives_flags (Core op) = false
+gives_flags (Gpr op) = false
+gives_flags (Bit op) = false
+gives_flags (String op) = false
+gives_flags (Cross op) = false
+gives_flags (Width op) = false
+gives_flags (Mac op) = false
+gives_flags (OnMasks op) = false
+gives_flags (Gather op) = false
+gives_flags (Xsave op) = false
+
+abbrev pub target_at : Spot → Row → Form → (mask : ℕ) → Places → Target
+target_at spot row f mask p = if gives_flags row.op then ToFlags else target_in spot row f mask p
+
+-- ---- the instruction
+abbrev pub plan_by : Spots → Form → Row → (mask : ℕ) → Places → (next : ℕ) → VectorPlan
+plan_by spots f row mask p next = record {
+  form = f;
+  mask = mask;
+  old = vector_in spots.destination p;
+  first = vector_in spots.first p;
+  second = source_in spots.second row f mask p;
+  target = target_at spots.destination row f mask p;
+  next = next;
+}
+
+-- the instruction of a row and its fields, by the opmasks
+unfoldable pub vector_plan : Row → Fields → Places → (next : ℕ) → (k : List ℕ) → VectorPlan
+vector_plan row fields p next k =
+    plan_by (spots_of (layout_of row.operands)) (form_of row fields) row (mask_in fields k) p next
+
+-- ---- the access list: what is read first, and what is written last
+abbrev pub span_accesses : Kind → Span → List Access
+span_accesses kind m = lane_accesses kind m.addr m.width m.mask m.lanes
+
+abbrev pub source_accesses : Source → List Access
+source_accesses (FromRegister n) = []
+source_accesses (FromGeneral n) = []
+source_accesses (Count n) = []
+source_accesses (FromMemory m) = span_accesses Read m
+source_accesses (Whole addr len) = record { kind = Read; addr = addr; len = len } ∷ []
+source_accesses Nothing = []
+
+abbrev pub target_accesses : Target → List Access
+target_accesses (ToMemory m) = span_accesses Write m
+target_accesses (ToRegister n) = []
+target_accesses (ToMask n) = []
+target_accesses (ToGeneral n) = []
+target_accesses ToFlags = []
+target_accesses Nowhere = []
+
+unfoldable pub vector_access : VectorPlan → List Access
+vector_access i = source_accesses i.second ++ target_accesses i.target

@@ -1,0 +1,11 @@
+//! Vector instructions: their operands, what they access, and what they leave.
+#![tactic(auto)]
+
+mod kinds;
+mod performing;
+mod places;
+mod planning;
+
+pub use kinds::{Places, Source, Span, Spots, Target, VectorPlan};
+pub use performing::{perform, walk};
+pub use planning::plan;

@@ -1,0 +1,303 @@
+//! What a vector instruction accesses and leaves.
+ghost use Rattle.std.specs.Prelude.{◌≡◌, ◌≤◌, None, Some, MatchResult, IsTrue, length};
+ghost use Rattle.machine_state.specs.Memory.{Swap, bytes_at, number_bytes};
+ghost use Rattle.gpr_flags.specs.Registers.{is_size};
+ghost use Rattle.num_lanes.specs.Lane.{lane_of};
+ghost use Rattle.guest_pages.specs.Pages.{table_of, byte_of};
+ghost use Rattle.guest_pages.specs.Walk.{walk as walk_of};
+ghost use Rattle.guest_pages.specs.Changes.{KeepsTable};
+ghost use Rattle.vec_step.specs.Plan.{vector_access, span_accesses, source_accesses, target_accesses};
+ghost use Rattle.vec_step.specs.Fits.{PlanFits, SpanFits, SourceFits, TargetFits};
+ghost use Rattle.vec_step.specs.Left.{padded, span_value, second_of, value_of, mask_of, gives_mask as gives_mask_by, number_of as number_of_result, extended_at, gprs_at, byte_at, extended_left, gprs_left, byte_left, flags_at, flags_left, tested_flags};
+
+use crate::kinds::{Source, Span, Target, VectorPlan};
+use gpr_flags::{Flags, Gprs, has_bit};
+use guest_pages::Pages;
+use machine_state::{Access, Kind, Stop};
+use masked_memory::{check_lanes, load_zeroed, store_ready};
+use num_lanes::{Vec64, get_lane};
+use row_table::Op;
+use vec_file::VecFile;
+use vec_units::{bits, vector};
+
+/// What comes of a vector instruction: a register, and a mask of bits.
+#[derive(Clone, Copy)]
+struct Outcome {
+    value: Vec64,
+    mask: u64,
+}
+
+// ---- the walk along the access list
+
+fn walk_span(m: &Span, pages: &Pages, kind: Kind) -> Result<(), Stop>
+    requires { SpanFits m.now }
+    ensures { MatchResult result (λ _. walk_of (table_of pages.now) (span_accesses kind m.now) ≡ None)
+        (λ stop. walk_of (table_of pages.now) (span_accesses kind m.now) ≡ Some stop) }
+{
+    check_lanes(pages, m.addr, m.width, m.lanes, m.mask, kind)
+}
+
+#[tactic(auto, unfolding(guest_pages::specs::Walk::walk))]
+fn walk_source(source: &Source, pages: &Pages) -> Result<(), Stop>
+    requires { SourceFits source.now }
+    ensures { MatchResult result (λ _. walk_of (table_of pages.now) (source_accesses source.now) ≡ None)
+        (λ stop. walk_of (table_of pages.now) (source_accesses source.now) ≡ Some stop) }
+{
+    match source {
+        Source::Memory(m) => walk_span(m, pages, Kind::Read),
+        Source::Whole(addr, len) => pages.walk(&[Access {
+            kind: Kind::Read,
+            addr: *addr,
+            len: u64::from(*len),
+        }]),
+        Source::Register(_) | Source::General(_) | Source::Count(_) | Source::Nothing => Ok(()),
+    }
+}
+
+#[tactic(auto, unfolding(guest_pages::specs::Walk::walk))]
+fn walk_target(target: &Target, pages: &Pages) -> Result<(), Stop>
+    requires { TargetFits target.now }
+    ensures { MatchResult result (λ _. walk_of (table_of pages.now) (target_accesses target.now) ≡ None)
+        (λ stop. walk_of (table_of pages.now) (target_accesses target.now) ≡ Some stop) }
+{
+    match target {
+        Target::Memory(m) => walk_span(m, pages, Kind::Write),
+        Target::Register(_)
+        | Target::Mask(_)
+        | Target::General(_)
+        | Target::Flags
+        | Target::Nowhere => Ok(()),
+    }
+}
+
+/// Walks along the access list of a vector instruction.
+#[tactic(auto, unfolding(guest_pages::specs::Walk::walk, crate::specs::Plan::vector_access))]
+pub fn walk(i: &VectorPlan, pages: &Pages) -> Result<(), Stop>
+    requires { PlanFits i.now }
+    ensures { MatchResult result (λ _. walk_of (table_of pages.now) (vector_access i.now) ≡ None)
+        (λ stop. walk_of (table_of pages.now) (vector_access i.now) ≡ Some stop) }
+{
+    match walk_source(&i.second, pages) {
+        Ok(()) => walk_target(&i.target, pages),
+        Err(stop) => Err(stop),
+    }
+}
+
+// ---- the second operand
+
+/// The lanes of a span that are accessed, with 0 in all others.
+fn load_span(m: &Span, pages: &Pages) -> Vec64
+    requires fits { SpanFits m.now }
+    requires ready { walk_of (table_of pages.now) (span_accesses Kind.Read m.now) ≡ None }
+    ensures { (w : Swap) → result ≡ span_value m.now (byte_of pages.now w) }
+{
+    load_zeroed(pages, m.addr, m.width, m.lanes, m.mask, Kind::Read)
+}
+
+/// Bytes of memory that can be read.
+#[tactic(auto, unfolding(guest_pages::specs::Walk::walk))]
+fn read_ready(pages: &Pages, addr: u64, into: &mut [u8])
+    requires { walk_of (table_of pages.now) (source_accesses (Source.Whole addr (length into.old))) ≡ None }
+    ensures { (w : Swap) → into.new ≡ bytes_at (byte_of pages.now w) addr (length into.old) }
+{
+    match pages.read(addr, into, Kind::Read) {
+        // The walk met no byte that can't be read.
+        Ok(()) | Err(_) => {}
+    }
+}
+
+/// So many bytes of memory, and zeros.
+fn load_whole(pages: &Pages, addr: u64, len: u8) -> Vec64
+    requires most { len ≤ 64 }
+    requires ready { walk_of (table_of pages.now) (source_accesses (Source.Whole addr len)) ≡ None }
+    ensures { (w : Swap) → result ≡ padded (bytes_at (byte_of pages.now w) addr len) len }
+{
+    let count = usize::from(len);
+    let mut out = [0; 64];
+    read_ready(pages, addr, &mut out[..count]);
+    out
+}
+
+/// The bytes of a number, and zeros.
+fn number(value: u64) -> Vec64
+    ensures { result ≡ padded (number_bytes 8 value) 8 }
+{
+    let mut out = [0; 64];
+    out[..8].copy_from_slice(&value.to_le_bytes());
+    out
+}
+
+/// The second operand.
+#[tactic(auto, unfolding(crate::specs::Left::second_of))]
+fn second(source: &Source, gprs: &Gprs, vec: &VecFile, pages: &Pages) -> Vec64
+    requires fits { SourceFits source.now }
+    requires ready { walk_of (table_of pages.now) (source_accesses source.now) ≡ None }
+    ensures { (w : Swap) → result ≡ second_of source.now gprs.now vec.now (byte_of pages.now w) }
+{
+    match source {
+        Source::Register(n) => *vec.zmm(*n),
+        Source::General(n) => number(gprs.get(*n)),
+        Source::Count(n) => number(u64::from(*n)),
+        Source::Memory(m) => load_span(m, pages),
+        Source::Whole(addr, len) => load_whole(pages, *addr, *len),
+        Source::Nothing => [0; 64],
+    }
+}
+
+// ---- what comes of it, and where it goes
+
+/// What comes of a vector instruction whose accesses can be made.
+#[tactic(auto, unfolding(crate::specs::Left::value_of, crate::specs::Left::mask_of))]
+fn computed(i: &VectorPlan, gprs: &Gprs, vec: &VecFile, pages: &Pages) -> Outcome
+    requires fits { PlanFits i.now }
+    requires ready { walk_of (table_of pages.now) (source_accesses i.now.second) ≡ None }
+    ensures value { (w : Swap) → result.value ≡ value_of i.now gprs.now vec.now (byte_of pages.now w) }
+    ensures mask { (w : Swap) → result.mask ≡ mask_of i.now gprs.now vec.now (byte_of pages.now w) }
+{
+    let second = second(&i.second, gprs, vec, pages);
+    let old = vec.zmm(i.old);
+    let first = vec.zmm(i.first);
+    Outcome {
+        value: vector(&i.form, old, first, &second, i.mask),
+        mask: bits(&i.form, old, first, &second, i.mask),
+    }
+}
+
+/// Whether the result of an operation is a mask of bits.
+#[tactic(auto, unfolding(crate::specs::Left::gives_mask))]
+fn gives_mask(op: Op) -> bool
+    ensures { result ≡ gives_mask_by op }
+{
+    match op {
+        Op::Vector(_) => true,
+        Op::Lane(_)
+        | Op::Core(_)
+        | Op::Gpr(_)
+        | Op::Bit(_)
+        | Op::String(_)
+        | Op::Cross(_)
+        | Op::Width(_)
+        | Op::Mac(_)
+        | Op::Mask(_)
+        | Op::Gather(_)
+        | Op::Xsave(_) => false,
+    }
+}
+
+/// The lowest lane.
+fn lowest(width: u8, value: &Vec64) -> u64
+    requires { IsTrue (is_size width) }
+    ensures { result ≡ lane_of width value.now 0 }
+{
+    match width {
+        1 => get_lane::<1>(value, 0),
+        2 => get_lane::<2>(value, 0),
+        4 => get_lane::<4>(value, 0),
+        _ => get_lane::<8>(value, 0),
+    }
+}
+
+/// The number for a general register.
+fn number_for(i: &VectorPlan, o: &Outcome) -> u64
+    requires { PlanFits i.now }
+    ensures { result ≡ number_of_result i.now o.now.value o.now.mask }
+{
+    if gives_mask(i.form.op) {
+        o.mask
+    } else {
+        lowest(i.form.width, &o.value)
+    }
+}
+
+fn put_vectors(target: &Target, o: &Outcome, vec: &mut VecFile)
+    requires { TargetFits target.now }
+    ensures { vec.new ≡ extended_at target.now o.now.value o.now.mask vec.old }
+{
+    match target {
+        Target::Register(n) => vec.set_zmm(*n, &o.value),
+        Target::Mask(n) => vec.set_k(*n, o.mask),
+        Target::Memory(_) | Target::General(_) | Target::Flags | Target::Nowhere => {}
+    }
+}
+
+fn put_general(target: &Target, number: u64, gprs: &mut Gprs)
+    requires { TargetFits target.now }
+    ensures { gprs.new ≡ gprs_at target.now number gprs.old }
+{
+    match target {
+        Target::General(n) => gprs.set(*n, number),
+        Target::Register(_)
+        | Target::Mask(_)
+        | Target::Memory(_)
+        | Target::Flags
+        | Target::Nowhere => {}
+    }
+}
+
+/// ZF is the lowest bit and CF the next; the other four that arithmetic sets are cleared.
+fn tested(mask: u64, flags: &Flags) -> Flags
+    ensures { result ≡ tested_flags mask flags.now }
+{
+    Flags {
+        zf: has_bit(mask, 0),
+        cf: has_bit(mask, 1),
+        pf: false,
+        af: false,
+        sf: false,
+        ovf: false,
+        ..*flags
+    }
+}
+
+fn put_flags(target: &Target, mask: u64, flags: &mut Flags)
+    ensures { flags.new ≡ flags_at target.now mask flags.old }
+{
+    match target {
+        Target::Flags => *flags = tested(mask, flags),
+        Target::Register(_)
+        | Target::Mask(_)
+        | Target::Memory(_)
+        | Target::General(_)
+        | Target::Nowhere => {}
+    }
+}
+
+fn put_bytes(target: &Target, value: &Vec64, pages: &mut Pages)
+    requires fits { TargetFits target.now }
+    requires ready { walk_of (table_of pages.old) (target_accesses target.now) ≡ None }
+    ensures byte { (w : Swap) → byte_of pages.new w ≡ byte_at target.now value.now (byte_of pages.old w) }
+    ensures table { KeepsTable pages.old pages.new }
+{
+    match target {
+        Target::Memory(m) => store_ready(pages, m.addr, m.width, m.lanes, m.mask, value),
+        Target::Register(_)
+        | Target::Mask(_)
+        | Target::General(_)
+        | Target::Flags
+        | Target::Nowhere => {}
+    }
+}
+
+/// Performs a vector instruction whose accesses can be made.
+#[tactic(auto, unfolding(crate::specs::Left::extended_left, crate::specs::Left::gprs_left, crate::specs::Left::flags_left, crate::specs::Left::byte_left))]
+pub fn perform(
+    i: &VectorPlan,
+    gprs: &mut Gprs,
+    flags: &mut Flags,
+    vec: &mut VecFile,
+    pages: &mut Pages,
+)
+    requires fits { PlanFits i.now }
+    requires ready { walk_of (table_of pages.old) (vector_access i.now) ≡ None }
+    ensures gprs { (w : Swap) → gprs.new ≡ gprs_left i.now gprs.old vec.old (byte_of pages.old w) }
+    ensures flags { (w : Swap) → flags.new ≡ flags_left i.now gprs.old vec.old (byte_of pages.old w) flags.old }
+    ensures extended { (w : Swap) → vec.new ≡ extended_left i.now gprs.old vec.old (byte_of pages.old w) }
+    ensures byte { (w : Swap) → byte_of pages.new w ≡ byte_left i.now gprs.old vec.old (byte_of pages.old w) }
+    ensures table { KeepsTable pages.old pages.new }
+{
+    let outcome = computed(i, gprs, vec, pages);
+    put_bytes(&i.target, &outcome.value, pages);
+    put_general(&i.target, number_for(i, &outcome), gprs);
+    put_flags(&i.target, outcome.mask, flags);
+    put_vectors(&i.target, &outcome, vec);
+}
