@@ -6,3 +6,5 @@ pub mod Unique
 pub mod Shaping
 pub mod Search
 pub mod Computing
+pub mod Spelled
+pub mod Listed

@@ -1,6 +1,9 @@
 pub mod Letters
+pub mod Order
 pub mod Shapes
 pub mod Lines
 pub mod Legacy
+pub mod Vex
 pub mod Rows
 pub mod Matching
+pub mod Spelling
