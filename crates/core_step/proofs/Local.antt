@@ -16,23 +16,21 @@ use Rattle.gpr_flags.specs.Registers.{RAX, RSI, with_register}
 use Rattle.machine_state.proofs.MemoryLemmas.{bytes_at_same}
 use Rattle.row_table.specs.declared.kinds.Row.{Row}
 use Rattle.row_table.specs.declared.kinds.Decoded.{Decoded}
-use Rattle.row_table.specs.declared.operations.Op.{Op}
-use Rattle.row_table.specs.declared.operations.Op.TheVariants.{Core, String}
-use Rattle.row_table.specs.declared.operations.CoreOp.{CoreOp}
-use Rattle.row_table.specs.declared.operations.CoreOp.TheVariants.{Cmpxchg8b}
 use Rattle.row_table.specs.declared.operations.StringOp.{StringOp}
 use Rattle.row_table.specs.declared.operations.StringOp.TheVariants.{Movs, Cmps, Stos, Lods, Scas}
 use Rattle.row_table.specs.Rows.{rows}
 use Rattle.string_unit.specs.Strings.{reads, writes, string_accesses, passed, compared, string_gprs, string_flags, string_byte}
-use Rattle.core_step.specs.declared.kinds.Size.{Size}
+use Rattle.core_step.specs.declared.sizes.Size.{Size}
 use Rattle.core_step.specs.declared.kinds.Operand.{Operand}
 use Rattle.core_step.specs.declared.kinds.Operand.TheVariants.{Absent, Register, HighByte, Memory as InMemory, Number}
 use Rattle.core_step.specs.declared.kinds.Use.{Use}
 use Rattle.core_step.specs.declared.kinds.Use.TheVariants.{Read as Reads, Write as Writes, Update}
 use Rattle.core_step.specs.declared.kinds.Instruction.{Instruction}
 use Rattle.core_step.specs.declared.kinds.Outcome.{Outcome}
-use Rattle.core_step.specs.declared.kinds.StringPlan.{StringPlan}
-use Rattle.core_step.specs.declared.kinds.PairPlan.{PairPlan}
+use Rattle.core_step.specs.declared.strings.StringPlan.{StringPlan}
+use Rattle.core_step.specs.declared.pair.PairPlan.{PairPlan}
+use Rattle.core_step.specs.declared.ways.Way.{Way}
+use Rattle.core_step.specs.declared.ways.Way.TheVariants.{Numbers, Strings, Pair}
 use Rattle.core_step.specs.declared.kinds.Plan.{Plan}
 use Rattle.core_step.specs.declared.kinds.Plan.TheVariants.{Plain, OnStrings, OnPair}
 use Rattle.machine_state.specs.declared.kinds.Access.{Access}
@@ -44,7 +42,7 @@ use Rattle.core_step.specs.Result.{outcome_of}
 use Rattle.core_step.specs.Plain.{register_value, value_of, old_value, byte_after, byte_left, destination_number, effect_by, outcome_in, plain_effect}
 use Rattle.core_step.specs.Strings.{strings_of, count_in, is_over, source_of, destination_of, strings_access, with_count, is_continued, gprs_iterated, flags_iterated, byte_iterated, iterated, passed_over}
 use Rattle.core_step.specs.Pair.{pair_of, pair_write, is_equal, pair_at, pair_stored, byte_exchanged, exchanged, pair_effect}
-use Rattle.core_step.specs.Plan.{next_of, core_plan, plan_by, plan_of, plan_accesses, effect_of}
+use Rattle.core_step.specs.Plan.{way_of, next_of, plan_by, plan_of, plan_accesses, effect_of}
 use Rattle.core_step.specs.Alignment.{is_misaligned}
 use Rattle.core_step.specs.Act.{trapped, carried_out, unless, performed_along, performed_as, performed_row, performed}
 use Rattle.core_step.specs.Machine.{accesses, accesses_by, AgreeOn, IsSame, IsLocal}
@@ -301,10 +299,10 @@ along-same xs plan s other agree =
     (first_fault_same xs s.memory other agree) (unless-same (first_fault s.memory.perms xs) xs plan s other agree)
 
 -- ---- the plan of an instruction doesn't depend on memory
-instruction_same : (row : Row) (d : Decoded) (len : ℕ) (s : State) (other : Memory)
-    → instruction_of row d len (with_memory s other) ≡ instruction_of row d len s
+instruction_same : (row : Row) (d : Decoded) (next : ℕ) (s : State) (other : Memory)
+    → instruction_of row d next (with_memory s other) ≡ instruction_of row d next s
 unfolding instruction_of instruction_by
-instruction_same row d len s other = refl
+instruction_same row d next s other = refl
 
 pair_of_same : (row : Row) (d : Decoded) (next : ℕ) (s : State) (other : Memory)
     → pair_of row d next (with_memory s other) ≡ pair_of row d next s
@@ -316,22 +314,16 @@ strings_of_same : (op : StringOp) (row : Row) (d : Decoded) (next : ℕ) (s : St
 unfolding strings_of
 strings_of_same op row d next s other = refl
 
-core_plan_same : (op : CoreOp) (row : Row) (d : Decoded) (len : ℕ) (s : State) (other : Memory)
-    → core_plan op row d len (with_memory s other) ≡ core_plan op row d len s
-unfolding core_plan
-core_plan_same Cmpxchg8b row d len s other = ap OnPair (pair_of_same row d (next_of len s) s other)
-core_plan_same op row d len s other = ap Plain (instruction_same row d len s other)
-
-plan_by_same : (op : Op) (row : Row) (d : Decoded) (len : ℕ) (s : State) (other : Memory)
-    → plan_by op row d len (with_memory s other) ≡ plan_by op row d len s
-plan_by_same (String op) row d len s other = ap OnStrings (strings_of_same op row d (next_of len s) s other)
-plan_by_same (Core op) row d len s other = core_plan_same op row d len s other
-plan_by_same op row d len s other = ap Plain (instruction_same row d len s other)
+plan_by_same : (way : Way) (row : Row) (d : Decoded) (next : ℕ) (s : State) (other : Memory)
+    → plan_by way row d next (with_memory s other) ≡ plan_by way row d next s
+plan_by_same Numbers row d next s other = ap Plain (instruction_same row d next s other)
+plan_by_same (Strings op) row d next s other = ap OnStrings (strings_of_same op row d next s other)
+plan_by_same Pair row d next s other = ap OnPair (pair_of_same row d next s other)
 
 plan_of_same : (row : Row) (d : Decoded) (len : ℕ) (s : State) (other : Memory)
     → plan_of row d len (with_memory s other) ≡ plan_of row d len s
 unfolding plan_of
-plan_of_same row d len s other = plan_by_same row.op row d len s other
+plan_of_same row d len s other = plan_by_same (way_of row.op) row d (next_of len s) s other
 
 -- nor do its access list and its alignment
 accesses-same : (plan : Plan) (s : State) (other : Memory) → plan_accesses plan (with_memory s other) ≡ plan_accesses plan s

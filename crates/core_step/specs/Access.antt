@@ -9,7 +9,7 @@ use Rattle.gpr_flags.specs.declared.kinds.Fault.TheVariants.{General, Page}
 use Rattle.machine_state.specs.Memory.{Permissions, first_miss}
 use Rattle.core_step.specs.declared.acted.Acted.{Acted}
 use Rattle.core_step.specs.declared.acted.Acted.TheVariants.{Trap, Need}
-use Rattle.core_step.specs.declared.kinds.Size.{Size}
+use Rattle.core_step.specs.declared.sizes.Size.{Size}
 use Rattle.core_step.specs.declared.kinds.Operand.{Operand}
 use Rattle.core_step.specs.declared.kinds.Operand.TheVariants.{Absent, Register, HighByte, Memory, Number}
 use Rattle.core_step.specs.declared.kinds.Use.{Use}

@@ -4,7 +4,7 @@ use Rattle.machine_state.specs.Memory.{written, number_at, number_bytes}
 use Rattle.gpr_flags.specs.Registers.{RSP, with_register}
 use Rattle.core_step.specs.declared.acted.Acted.{Acted}
 use Rattle.core_step.specs.declared.acted.Acted.TheVariants.{Done}
-use Rattle.core_step.specs.declared.kinds.Size.{Size}
+use Rattle.core_step.specs.declared.sizes.Size.{Size}
 use Rattle.core_step.specs.declared.kinds.Operand.{Operand}
 use Rattle.core_step.specs.declared.kinds.Operand.TheVariants.{Absent, Register, HighByte, Memory, Number}
 use Rattle.core_step.specs.declared.kinds.Use.{Use}

@@ -20,7 +20,7 @@ use Rattle.gpr_units.specs.Divide.{is_refused, quotient_of, remainder_of}
 use Rattle.bit_units.specs.Shifts.{shift_value, shift_flags}
 use Rattle.bit_units.specs.Bits.{bits_value, bits_flags}
 use Rattle.core_step.specs.declared.acted.Acted.TheVariants.{Done, Call as Calls, Trap}
-use Rattle.core_step.specs.declared.kinds.Size.{Size}
+use Rattle.core_step.specs.declared.sizes.Size.{Size}
 use Rattle.core_step.specs.declared.kinds.Instruction.{Instruction}
 use Rattle.core_step.specs.declared.kinds.Outcome.{Outcome}
 use Rattle.core_step.specs.Size.{bytes_in, bits_in, cut, sign_extended}

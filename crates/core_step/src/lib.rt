@@ -23,6 +23,7 @@ mod strings;
 mod tests;
 mod values;
 mod walking;
+mod ways;
 
 pub use acted::Acted;
 pub use fetch_cache::FetchCache;

@@ -25,10 +25,10 @@ ghost use Rattle.core_step.specs.Machine.{IsWhole, IsLeft, IsLocal, IsFramed, ac
 use crate::acted::Acted;
 use crate::fetch_cache::FetchCache;
 use crate::fetching::{Fetched, fetch_outcome, read_run};
-use crate::kinds::{Instruction, Outcome, PairPlan, Plan, StringPlan};
-use crate::pair::{exchange_memory, exchange_registers, is_equal, load};
+use crate::kinds::{Instruction, Outcome, Plan};
+use crate::pair::PairPlan;
 use crate::results::outcome;
-use crate::strings::{count, is_over, iterate_once, lower_count, rip_after};
+use crate::strings::StringPlan;
 use crate::values::{move_stack, number_for, old_value, put, put_register, register_value, value};
 use crate::walking::answer;
 use gpr_flags::{Fault, Flags, Gprs};
@@ -154,7 +154,7 @@ impl Machine {
         requires room { self.old.steps < 2 ^ 64 - 1 }
         ensures { IsLeft self.old self.new result (strings_effect i.now) }
     {
-        if is_over(i, &self.gprs) {
+        if i.is_over(&self.gprs) {
             self.move_on(i.next);
             Acted::Done
         } else {
@@ -170,10 +170,10 @@ impl Machine {
         requires room { self.old.steps < 2 ^ 64 - 1 }
         ensures { IsLeft self.old self.new Acted.Done (iterated i.now) }
     {
-        let count = count(i, &self.gprs);
-        iterate_once(i, &mut self.gprs, &mut self.flags, &mut self.pages);
-        lower_count(i, count, &mut self.gprs);
-        let rip = rip_after(i, count, self.flags, self.rip);
+        let count = i.count(&self.gprs);
+        i.iterate_once(&mut self.gprs, &mut self.flags, &mut self.pages);
+        i.lower_count(count, &mut self.gprs);
+        let rip = i.rip_after(count, self.flags, self.rip);
         self.move_on(rip);
     }
 
@@ -183,10 +183,10 @@ impl Machine {
         requires room { self.old.steps < 2 ^ 64 - 1 }
         ensures { IsLeft self.old self.new result (pair_effect i.now) }
     {
-        let found = load(i, &self.pages);
-        let equal = is_equal(i.half, found, &self.gprs);
-        exchange_memory(i, found, &self.gprs, &mut self.pages);
-        exchange_registers(i, found, &mut self.gprs);
+        let found = i.load(&self.pages);
+        let equal = i.is_equal(found, &self.gprs);
+        i.exchange_memory(found, &self.gprs, &mut self.pages);
+        i.exchange_registers(found, &mut self.gprs);
         self.flags.zf = equal;
         self.move_on(i.next);
         Acted::Done

@@ -8,7 +8,8 @@ ghost use Rattle.core_step.specs.Result.{reversed as reversed_to, sign_bits as s
 
 use crate::acted::Acted;
 use crate::flags::with_low;
-use crate::kinds::{Instruction, Outcome, Size};
+use crate::kinds::{Instruction, Outcome};
+use crate::sizes::Size;
 use bit_units::{bits, shift};
 use gpr_flags::{Fault, Flags, is_negative};
 use gpr_units::{alu, divide, multiply};

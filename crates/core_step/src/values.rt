@@ -10,8 +10,8 @@ ghost use Rattle.core_step.specs.Fits.{OperandFits};
 ghost use Rattle.core_step.specs.Access.{operand_access, kind_of};
 ghost use Rattle.core_step.specs.Plain.{register_value as register_value_of, value_of, old_value as old_value_of, number_for as number_for_use, gprs_with, gprs_after, gprs_stacked, byte_after};
 
-use crate::kinds::{Operand, Size, Use};
-use crate::sizes::with_high_byte;
+use crate::kinds::{Operand, Use};
+use crate::sizes::{Size, with_high_byte};
 use gpr_flags::{Gprs, RSP};
 use guest_pages::Pages;
 use machine_state::Kind;
