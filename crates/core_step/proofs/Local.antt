@@ -22,7 +22,7 @@ use Rattle.row_table.specs.Rows.{rows}
 use Rattle.string_unit.specs.Strings.{reads, writes, string_accesses, passed, compared, string_gprs, string_flags, string_byte}
 use Rattle.core_step.specs.declared.sizes.Size.{Size}
 use Rattle.core_step.specs.declared.kinds.Operand.{Operand}
-use Rattle.core_step.specs.declared.kinds.Operand.TheVariants.{Absent, Register, HighByte, Memory as InMemory, Number}
+use Rattle.core_step.specs.declared.kinds.Operand.TheVariants.{Absent, Register, HighByte, Memory as InMemory, Number, Mxcsr}
 use Rattle.core_step.specs.declared.kinds.Use.{Use}
 use Rattle.core_step.specs.declared.kinds.Use.TheVariants.{Read as Reads, Write as Writes, Update}
 use Rattle.core_step.specs.declared.kinds.Instruction.{Instruction}
@@ -93,25 +93,26 @@ bytes_same access memory other agree =
     bytes_at_same memory.byte other.byte access.addr access.len (λ i inside. (agree (access.addr + i) (omega arith) (omega arith)).1)
 
 -- where memories agree on the access of an operand, its number is the same
-value_of_same : (kind : Kind) (operand : Operand) (size : Size) (gprs : List ℕ) (memory other : Memory)
+value_of_same : (kind : Kind) (operand : Operand) (size : Size) (p : Processor) (memory other : Memory)
     → All (AgreeOn memory other) (operand_access kind operand size)
-    → value_of operand size gprs memory.byte ≡ value_of operand size gprs other.byte
+    → value_of operand size p memory.byte ≡ value_of operand size p other.byte
 unfolding value_of
-value_of_same kind Absent size gprs memory other agree = refl
-value_of_same kind (Register number) size gprs memory other agree = refl
-value_of_same kind (HighByte number) size gprs memory other agree = refl
-value_of_same kind (InMemory addr) size gprs memory other agree =
+value_of_same kind Absent size p memory other agree = refl
+value_of_same kind (Register number) size p memory other agree = refl
+value_of_same kind (HighByte number) size p memory other agree = refl
+value_of_same kind (InMemory addr) size p memory other agree =
     let access : Access = record { kind = kind; addr = addr; len = bytes_in size } in
     ap (little_number (bytes_in size)) (bytes_same access memory other (All-head (AgreeOn memory other) access [] agree))
-value_of_same kind (Number number) size gprs memory other agree = refl
+value_of_same kind (Number number) size p memory other agree = refl
+value_of_same kind Mxcsr size p memory other agree = refl
 
 -- where memories agree on the access of a destination, what stood there is the same; it counts only where it is read
-old_value_same : (usage : Use) (operand : Operand) (size : Size) (gprs : List ℕ) (memory other : Memory)
+old_value_same : (usage : Use) (operand : Operand) (size : Size) (p : Processor) (memory other : Memory)
     → All (AgreeOn memory other) (operand_access (kind_of usage) operand size)
-    → old_value usage operand size gprs memory.byte ≡ old_value usage operand size gprs other.byte
-old_value_same Reads operand size gprs memory other agree = value_of_same _ operand size gprs memory other agree
-old_value_same Writes operand size gprs memory other agree = refl
-old_value_same Update operand size gprs memory other agree = value_of_same _ operand size gprs memory other agree
+    → old_value usage operand size p memory.byte ≡ old_value usage operand size p other.byte
+old_value_same Reads operand size p memory other agree = value_of_same _ operand size p memory other agree
+old_value_same Writes operand size p memory other agree = refl
+old_value_same Update operand size p memory other agree = value_of_same _ operand size p memory other agree
 
 -- ---- the bytes
 -- a number that goes to an operand keeps each byte the same that was the same
@@ -123,6 +124,7 @@ byte_after_same (Register to) size (Some number) byte other at same = same
 byte_after_same (HighByte to) size (Some number) byte other at same = same
 byte_after_same (InMemory addr) size (Some number) byte other at same = written_same byte other addr (number_bytes (bytes_in size) number) at same
 byte_after_same (Number to) size (Some number) byte other at same = same
+byte_after_same Mxcsr size (Some number) byte other at same = same
 
 -- an outcome keeps each byte the same that was the same
 byte_left_same : (i : Instruction) (o : Outcome) (byte other : ℕ → ℕ) (at : ℕ) → byte at ≡ other at
@@ -142,13 +144,11 @@ pub record Agrees (byte other : ℕ → ℕ) (e f : Effect) : Type 0 where
 outcome_same : (i : Instruction) (p : Processor) (memory other : Memory) → All (AgreeOn memory other) (accesses_of i)
     → outcome_in i p memory.byte ≡ outcome_in i p other.byte
 outcome_same i p memory other agree =
-    ap (λ (a : ℕ).
-    outcome_of i a (value_of i.source i.source_size p.gprs memory.byte) (register_value i.beside i.beside_size p.gprs) p.flags p.steps)
-    (old_value_same i.usage i.destination i.size p.gprs memory other (All-destination (AgreeOn memory other) i agree))
+    ap (λ (a : ℕ). outcome_of i a (value_of i.source i.source_size p memory.byte) (register_value i.beside i.beside_size p) p.flags p.steps)
+    (old_value_same i.usage i.destination i.size p memory other (All-destination (AgreeOn memory other) i agree))
     ∙ ap (λ (b : ℕ).
-    outcome_of i (old_value i.usage i.destination i.size p.gprs other.byte) b (register_value i.beside i.beside_size p.gprs)
-    p.flags p.steps)
-    (value_of_same Read i.source i.source_size p.gprs memory other (All-source (AgreeOn memory other) i agree))
+    outcome_of i (old_value i.usage i.destination i.size p other.byte) b (register_value i.beside i.beside_size p) p.flags p.steps)
+    (value_of_same Read i.source i.source_size p memory other (All-source (AgreeOn memory other) i agree))
 
 plain-agrees : (i : Instruction) (p : Processor) (memory other : Memory) → All (AgreeOn memory other) (accesses_of i)
     → Agrees memory.byte other.byte (plain_effect i p memory.byte) (plain_effect i p other.byte)

@@ -1,9 +1,9 @@
 -- Every row of the table is performed, and so its instructions aren't undefined.
-use Rattle.std.proofs.Common.{◌≡◌, ℕ, zero, suc, Bool, true, false, ◌&&◌, cond, List, [], ◌∷◌, slice_get, refl, sym, subst, ◌∙◌}
+use Rattle.std.proofs.Common.{◌≡◌, ℕ, zero, suc, Bool, true, false, ◌&&◌, cond, nat_lt, List, [], ◌∷◌, slice_get, refl, sym, subst, ◌∙◌}
 use Rattle.std.proofs.Common.{Some as some}
 use Rattle.std.proofs.lemmas.Bool.{and_parts}
 use Rattle.gpr_flags.specs.declared.kinds.Flags.{Flags}
-use Rattle.gpr_flags.specs.declared.kinds.Fault.TheVariants.{Undefined, Divide}
+use Rattle.gpr_flags.specs.declared.kinds.Fault.TheVariants.{Undefined, Divide, General}
 use Rattle.gpr_units.specs.Divide.{is_refused}
 use Rattle.machine_state.specs.declared.kinds.Kind.{Kind}
 use Rattle.machine_state.specs.declared.kinds.Miss.{Miss}
@@ -14,13 +14,14 @@ use Rattle.row_table.specs.declared.kinds.Decoded.{Decoded}
 use Rattle.row_table.specs.declared.operations.Op.{Op}
 use Rattle.row_table.specs.declared.operations.Op.TheVariants.{Core, Gpr, Bit, String, Lane, Cross, Width, Mac, Mask, Vector, Gather, Xsave}
 use Rattle.row_table.specs.declared.operations.CoreOp.{CoreOp}
-use Rattle.row_table.specs.declared.operations.CoreOp.TheVariants.{Cmpxchg8b, Nop}
+use Rattle.row_table.specs.declared.operations.CoreOp.TheVariants.{Cmpxchg8b, Nop, Ldmxcsr}
 use Rattle.row_table.specs.declared.operations.GprOp.{GprOp}
 use Rattle.row_table.specs.declared.operations.GprOp.TheVariants.{Div, Idiv}
 use Rattle.row_table.specs.declared.operations.BitOp.{BitOp}
 use Rattle.row_table.specs.declared.operations.BitOp.TheVariants.{Rol}
 use Rattle.row_table.specs.Letters.{layout_of, letters}
 use Rattle.row_table.specs.Legacy.{legacy, one_byte, two_byte, three_byte}
+use Rattle.row_table.specs.Vex.{vex_rows, vex_0f, vex_0f38, vex_0f3a}
 use Rattle.row_table.specs.Rows.{rows}
 use Rattle.core_step.specs.declared.acted.Acted.{Acted}
 use Rattle.core_step.specs.declared.acted.Acted.TheVariants.{Done, Trap}
@@ -35,7 +36,7 @@ use Rattle.core_step.specs.Operands.{instruction_of, instruction_by, op_of}
 use Rattle.core_step.specs.Access.{acted_by_miss}
 use Rattle.core_step.specs.Strings.{strings_of, is_over, passed_over, iterated}
 use Rattle.core_step.specs.Plan.{core_way, way_of, plan_by, plan_of, next_of, effect_of}
-use Rattle.core_step.specs.Result.{faults, core_outcome, gpr_outcome, bit_outcome, outcome_by, outcome_of}
+use Rattle.core_step.specs.Result.{gives, faults, core_outcome, gpr_outcome, bit_outcome, outcome_by, outcome_of}
 use Rattle.core_step.specs.Effect.{Processor}
 use Rattle.core_step.specs.Plain.{outcome_in}
 use Rattle.core_step.specs.Performed.{core_performed, is_performed, are_placed, IsPerformed}
@@ -50,7 +51,7 @@ all_performed [] = true
 all_performed (row ∷ rest) = is_row_performed row && all_performed rest
 
 rows-performed : all_performed rows ≡ true
-unfolding all_performed is_performed core_performed core_roles gpr_roles bit_roles layout_of letters rows legacy one_byte two_byte three_byte
+unfolding all_performed is_performed core_performed core_roles gpr_roles bit_roles layout_of letters rows legacy one_byte two_byte three_byte vex_rows vex_0f vex_0f38 vex_0f3a
 rows-performed = refl
 
 same_row : (row other : Row) → some row ≡ some other → row ≡ other
@@ -76,21 +77,22 @@ IsDefined acted = acted ≡ Trap Undefined → ⊥
 abbrev IsPlain : Op → Type 0
 IsPlain op = (is_performed op ≡ true) × (way_of op ≡ Numbers)
 
+-- of two outcomes
+chosen-defined : (first : Bool) (o other : Outcome) → IsDefined o.acted → IsDefined other.acted → IsDefined (cond first o other).acted
+chosen-defined true o other h more = h
+chosen-defined false o other h more = more
+
 core-defined : (op : CoreOp) (i : Instruction) (a b c : ℕ) (flags : Flags) (steps : ℕ) → core_performed op ≡ true
     → core_way op ≡ Numbers → IsDefined (core_outcome op i a b c flags steps).acted
 unfolding core_performed core_way core_outcome
 core-defined Cmpxchg8b i a b c flags steps h plain e = absurd (let clash : Pair ≡ Numbers = plain in cc)
+core-defined Ldmxcsr i a b c flags steps h plain = chosen-defined (nat_lt b 65536) (gives b i flags) (faults General i flags) (λ e. cc) (λ e. cc)
 core-defined op i a b c flags steps h plain e = cc
-
-divides-defined : (refused : Bool) (i : Instruction) (o : Outcome) (flags : Flags) → o.acted ≡ Done
-    → IsDefined (cond refused (faults Divide i flags) o).acted
-divides-defined true i o flags done = λ e. cc
-divides-defined false i o flags done = λ e. let clash : Done ≡ Trap Undefined = sym done ∙ e in cc
 
 gpr-defined : (op : GprOp) (i : Instruction) (a b c : ℕ) (flags : Flags) → IsDefined (gpr_outcome op i a b c flags).acted
 unfolding gpr_outcome
-gpr-defined Div i a b c flags = divides-defined (is_refused false (bits_in i.size) c a b) i _ flags refl
-gpr-defined Idiv i a b c flags = divides-defined (is_refused true (bits_in i.size) c a b) i _ flags refl
+gpr-defined Div i a b c flags = chosen-defined (is_refused false (bits_in i.size) c a b) (faults Divide i flags) _ (λ e. cc) (λ e. cc)
+gpr-defined Idiv i a b c flags = chosen-defined (is_refused true (bits_in i.size) c a b) (faults Divide i flags) _ (λ e. cc) (λ e. cc)
 gpr-defined op i a b c flags = λ e. cc
 
 bit-defined : (op : BitOp) (i : Instruction) (a b c : ℕ) (flags : Flags) → IsDefined (bit_outcome op i a b c flags).acted

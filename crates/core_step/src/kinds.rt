@@ -27,6 +27,8 @@ pub enum Part {
     Ah,
     /// rDX, or AH of bytes.
     UpperHalf,
+    /// The control and status register of SSE.
+    Mxcsr,
 }
 
 /// How wide an operation's destination is.
@@ -94,6 +96,8 @@ pub enum Operand {
     Memory(u64),
     /// The number itself.
     Number(u64),
+    /// The control and status register of SSE (SDM volume 1, 10.2.3).
+    Mxcsr,
 }
 
 /// What an instruction does with its destination.

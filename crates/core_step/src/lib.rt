@@ -33,3 +33,4 @@ pub use guest_pages::Pages;
 pub use machine::Machine;
 pub use machine_state::{Kind, Perms};
 pub use row_table::Decoded;
+pub use vec_file::VecFile;

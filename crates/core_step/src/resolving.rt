@@ -41,6 +41,7 @@ pub(crate) fn operand_for(
         Part::R11 => Operand::Register(R11),
         Part::Ah => Operand::HighByte(RAX),
         Part::UpperHalf => upper_half(size),
+        Part::Mxcsr => Operand::Mxcsr,
     }
 }
 

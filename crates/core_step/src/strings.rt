@@ -111,7 +111,15 @@ impl StringPlan {
             (source_of self.now gprs.old) (destination_of self.now gprs.old) gprs.old (byte_of pages.old w) }
         ensures table { KeepsTable pages.old pages.new }
     {
-        iterate_ready(self.op, self.size.bytes(), self.wrap32, self.base, gprs, flags, pages);
+        iterate_ready(
+            self.op,
+            self.size.bytes(),
+            self.wrap32,
+            self.base,
+            gprs,
+            flags,
+            pages,
+        );
     }
 
     /// Lowers the count by one where the instruction is repeated.
@@ -127,7 +135,9 @@ impl StringPlan {
     fn is_continued(&self, count: u64, flags: Flags) -> bool
         ensures { result ≡ is_continued_by self.now count flags }
     {
-        self.repeat.is_repeated() && count.saturating_sub(1) != 0 && self.repeat.goes_on(self.op, flags)
+        self.repeat.is_repeated()
+            && count.saturating_sub(1) != 0
+            && self.repeat.goes_on(self.op, flags)
     }
 
     /// Where the instruction pointer is after an iteration.
