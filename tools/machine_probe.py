@@ -1,6 +1,6 @@
 """A program over `core_step` that takes steps of the machine that `xemu` runs, from starts that are given line by line."""
-CRATES = ("gpr_flags", "machine_state", "guest_pages", "row_table", "form_scan", "legacy_decode", "vex_decode", "x_decode",
-          "gpr_units", "bit_units", "string_unit", "core_step")
+CRATES = ("gpr_flags", "machine_state", "num_lanes", "vec_file", "guest_pages", "row_table", "form_scan", "legacy_decode",
+          "vex_decode", "x_decode", "gpr_units", "bit_units", "string_unit", "core_step")
 USES = "core_step"
 ANSWER = r"(done|de|bp|ud|gp|pf) [0-9a-f]+ [0-9a-f]+ [0-9a-f]+( @?[0-9a-f]+=[0-9a-f]+)*"
 
@@ -14,7 +14,7 @@ MAIN = """\
 //! Reads starts, one a line, takes a step of the machine from each, and prints where it got to.
 #![tactic(auto)]
 
-use core_step::{Acted, Fault, Fetched, Flags, Gprs, Kind, Machine, Pages, Perms};
+use core_step::{Acted, Fault, Fetched, Flags, Gprs, Kind, Machine, Pages, Perms, VecFile};
 use std::io;
 
 /// A line's numbers are in hexadecimal, and its numbers of several bytes in a record have the lowest first.
@@ -99,6 +99,7 @@ fn machine(rt: &HostRuntime, line: &Line) -> Result<Machine, io::Error> {
         gprs: Gprs::new(),
         flags: Flags::none(),
         rip: 0,
+        vec: VecFile::new(),
         pages,
         fs: 0,
         gs: 0,
