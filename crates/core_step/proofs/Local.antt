@@ -10,7 +10,7 @@ use Rattle.gpr_flags.specs.declared.kinds.Fault.TheVariants.{Undefined, General}
 use Rattle.gpr_flags.specs.declared.kinds.Flags.{Flags}
 use Rattle.machine_state.specs.declared.kinds.Miss.{Miss}
 use Rattle.machine_state.specs.declared.kinds.Miss.TheVariants.{NonCanonical}
-use Rattle.machine_state.specs.Memory.{Permissions, Memory, is_noncanonical, miss_in, miss_at, or_else, first_miss, bytes_at, written, number_at, number_bytes}
+use Rattle.machine_state.specs.Memory.{page_size, Permissions, Memory, is_noncanonical, miss_in, miss_at, or_else, first_miss, bytes_at, written, number_at, number_bytes}
 use Rattle.machine_state.specs.State.{State}
 use Rattle.gpr_flags.specs.Registers.{RAX, RSI, with_register}
 use Rattle.machine_state.proofs.MemoryLemmas.{bytes_at_same}
@@ -51,14 +51,14 @@ use Rattle.core_step.proofs.Seeing.{written_same, seen_same, put_in-same}
 
 -- ---- the fault
 -- why a byte can't be had depends on its page's permissions alone
-miss_at_same : (perms others : Permissions) (kind : Kind) (addr : ℕ) → perms (addr / 4096) ≡ others (addr / 4096)
+miss_at_same : (perms others : Permissions) (kind : Kind) (addr : ℕ) → perms (addr / page_size) ≡ others (addr / page_size)
     → miss_at perms kind addr ≡ miss_at others kind addr
 miss_at_same perms others kind addr same =
     ap (λ (page : Option ℕ). cond (is_noncanonical addr) (Some (NonCanonical addr)) (miss_in page kind addr)) same
 
 -- the first byte that isn't allowed depends on the permissions of the access's pages alone
 first_miss_same : (perms others : Permissions) (kind : Kind) (addr len : ℕ)
-    → ((at : ℕ) → addr ≤ at → at < addr + len → perms (at / 4096) ≡ others (at / 4096))
+    → ((at : ℕ) → addr ≤ at → at < addr + len → perms (at / page_size) ≡ others (at / page_size))
     → first_miss perms kind addr len ≡ first_miss others kind addr len
 unfolding first_miss
 first_miss_same perms others kind addr zero same = refl

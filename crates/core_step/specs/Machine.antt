@@ -4,7 +4,7 @@ use Rattle.std.specs.List.{All}
 use Rattle.machine_state.specs.declared.kinds.Kind.TheVariants.{Write}
 use Rattle.machine_state.specs.declared.kinds.Miss.{Miss}
 use Rattle.machine_state.specs.declared.kinds.Miss.TheVariants.{Away}
-use Rattle.machine_state.specs.Memory.{Memory, Swap}
+use Rattle.machine_state.specs.Memory.{page_size, Memory, Swap}
 use Rattle.machine_state.specs.State.{State}
 use Rattle.guest_pages.specs.Pages.{byte_of, memory_of}
 use Rattle.guest_pages.specs.Changes.{KeepsTable}
@@ -78,7 +78,7 @@ needed (Some stop) = away_in stop.miss
 abbrev pub AgreeOn : Memory → Memory → Access → Type 0
 AgreeOn memory other access =
     (at : ℕ) → access.addr ≤ at → at < access.addr + access.len
-    → (memory.perms (at / 4096) ≡ other.perms (at / 4096)) × (memory.byte at ≡ other.byte at)
+    → (memory.perms (at / page_size) ≡ other.perms (at / page_size)) × (memory.byte at ≡ other.byte at)
 
 -- the same answer and the same state but for memory, where permissions stay, and the bytes are the same again at each address
 -- where they were

@@ -1,7 +1,7 @@
 mod processor;
 
 use crate::{Acted, Fault, FetchCache, Fetched, Flags, Gprs, Machine, Pages, Perms, VecFile};
-use machine_state::Kind;
+use machine_state::{Kind, PAGE_SIZE};
 use processor::{Row, State};
 use std::alloc::Global;
 use std::process::Abort;
@@ -10,6 +10,8 @@ use std::test::Fail;
 const CODE: u64 = 0x40_0000;
 
 const DATA: u64 = 0x50_0000;
+
+const PAGE: usize = PAGE_SIZE as usize;
 
 // The registers at the start of each row.
 const REGISTERS: [u64; 16] = [
@@ -32,9 +34,9 @@ const REGISTERS: [u64; 16] = [
 ];
 
 // The data page at the start of each row.
-fn data() -> [u8; 4096] {
-    let mut page = [0; 4096];
-    for k in 0..4096 {
+fn data() -> [u8; PAGE] {
+    let mut page = [0; PAGE];
+    for k in 0..PAGE {
         page[k] = ((k * 7 + 1) % 256) as u8;
     }
     page
@@ -72,10 +74,10 @@ fn step(rt: &impl Abort, machine: &mut Machine) -> Acted {
     }
 }
 
-fn put_bytes(rt: &impl Abort, page: &mut [u8; 4096], addr: u64, bytes: &[u8]) {
+fn put_bytes(rt: &impl Abort, page: &mut [u8; PAGE], addr: u64, bytes: &[u8]) {
     assert!(rt; addr >= DATA && addr < DATA + 0x1000);
     let at = (addr - DATA) as usize;
-    assert!(rt; bytes.len() <= 4096 - at);
+    assert!(rt; bytes.len() <= PAGE - at);
     page[at..at + bytes.len()].copy_from_slice(bytes);
 }
 
@@ -92,7 +94,7 @@ fn begin(rt: &impl Abort, m: &mut Machine, state: &State) {
 }
 
 // The same for the registers and the data page that are expected.
-fn change(rt: &impl Abort, registers: &mut [u64; 16], page: &mut [u8; 4096], state: &State) {
+fn change(rt: &impl Abort, registers: &mut [u64; 16], page: &mut [u8; PAGE], state: &State) {
     for (n, value) in state.0 {
         assert!(rt; *n < 16);
         registers[*n as usize] = *value;
@@ -118,7 +120,7 @@ fn compare(rt: &impl Abort, m: &Machine, row: &Row) {
     }
     assert_eq!(rt; m.flags.word(), row.2.1, "flags at {:?}", row.0);
     assert_eq!(rt; m.rip, row.3, "at {:?}", row.0);
-    let mut left = [0; 4096];
+    let mut left = [0; PAGE];
     assert_eq!(rt; m.pages.read(DATA, &mut left, Kind::Read), Ok(()));
     assert!(rt; left == page, "memory at {:?}", row.0);
 }
