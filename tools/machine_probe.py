@@ -2,7 +2,7 @@
 CRATES = ("gpr_flags", "machine_state", "guest_pages", "row_table", "form_scan", "legacy_decode", "x_decode", "gpr_units",
           "bit_units", "string_unit", "core_step")
 USES = "core_step"
-ANSWER = r"(done|de|bp|ud|gp|pf) [0-9a-f]+ [0-9a-f]+ [0-9a-f]+( @?[0-9a-f]+=[0-9a-f]+)*"
+ANSWER = r"(done|de|bp|ud|gp|pf)( [0-9a-f]+){4}( @?[0-9a-f]+=[0-9a-f]+)*"
 
 
 def text(places, start):
@@ -155,7 +155,8 @@ fn answer(rt: &HostRuntime, m: &mut Machine, first: &[u8], line: &Line) -> io::R
     let page = data_page(first, line);
     begin(m, line, &page);
     let (how, at) = ending(run(m, line.byte(ENDS + 3)));
-    print!(rt; "{how} {at:x} {:x} {:x}", m.rip, m.flags.word())?;
+    let mxcsr = line.number(ENDS) >> 32;
+    print!(rt; "{how} {at:x} {:x} {:x} {mxcsr:x}", m.rip, m.flags.word())?;
     for n in 0..16 {
         let value = m.gprs.get(n as u8);
         if value != line.number(8 * n) {
