@@ -1,6 +1,7 @@
 -- What the checker computes over the whole table. All else follows from these by lemmas.
 use Rattle.std.proofs.Common.{◌≡◌, true, refl, sym, subst, length}
 use Rattle.row_table.specs.Legacy.{legacy, one_byte, two_byte, three_byte}
+use Rattle.row_table.specs.Vex.{vex_rows, vex_0f, vex_0f38, vex_0f3a}
 use Rattle.row_table.specs.Letters.{layout_of, letters}
 use Rattle.row_table.specs.Rows.{rows, table, starts}
 use Rattle.row_table.proofs.Index.{index_fits, indexed, passes_by, ranged, rises, at_most}
@@ -8,7 +9,7 @@ use Rattle.row_table.proofs.Pairs.{ordered, passes_near, near, together}
 
 -- the rows of the definition are those of the code
 pub rows-table : rows ≡ table
-unfolding rows legacy one_byte two_byte three_byte table
+unfolding rows legacy one_byte two_byte three_byte vex_rows vex_0f vex_0f38 vex_0f3a table
 rows-table = refl
 
 table-indexed : index_fits starts table ≡ true

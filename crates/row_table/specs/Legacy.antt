@@ -4,7 +4,7 @@ use Rattle.std.specs.Prelude.{List, [], ◌∷◌, ◌++◌, flat_map}
 use Rattle.row_table.specs.declared.kinds.Operands.TheVariants.{Implied, OpcodeReg, RaxOpcodeReg, OpcodeRegIb, OpcodeRegIv, Ib, Iw, Iz, Jb, Jz, AlIb, RaxIz, AlOb, RaxOv, ObAl, OvRax, Eb, Ev, EbGb, EvGv, GbEb, GvEv, GvEb, GvEw, GvEd, EbIb, EvIb, EvIz, EbOne, EvOne, EbCl, EvCl, GvEvIb, GvEvIz, EvGvIb, EvGvCl, GvM, MvGv, M, R}
 use Rattle.row_table.specs.declared.kinds.Row.{Row}
 use Rattle.row_table.specs.declared.operations.Op.TheVariants.{Core, Gpr, Bit, String}
-use Rattle.row_table.specs.declared.operations.CoreOp.TheVariants.{Mov, Movsxd, Movzx, Movsx, Movbe, Movnti, Lea, Xchg, Push, Pop, Pushf, Popf, Leave, Call, Ret, Jmp, Jcc, Loopne, Loope, Loop, Jrcxz, Cmovcc, Setcc, Cbw, Cwd, Bswap, Cmc, Clc, Stc, Cld, Std, Sahf, Lahf, Int3, Hlt, Syscall, Rdtsc, Nop, Xadd, Cmpxchg, Cmpxchg8b, Clflush}
+use Rattle.row_table.specs.declared.operations.CoreOp.TheVariants.{Mov, Movsxd, Movzx, Movsx, Movbe, Movnti, Lea, Xchg, Push, Pop, Pushf, Popf, Leave, Call, Ret, Jmp, Jcc, Loopne, Loope, Loop, Jrcxz, Cmovcc, Setcc, Cbw, Cwd, Bswap, Cmc, Clc, Stc, Cld, Std, Sahf, Lahf, Int3, Hlt, Syscall, Rdtsc, Nop, Xadd, Cmpxchg, Cmpxchg8b, Ldmxcsr, Stmxcsr, Clflush}
 use Rattle.row_table.specs.declared.operations.StringOp.TheVariants.{Movs, Cmps, Stos, Lods, Scas}
 use Rattle.row_table.specs.declared.operations.GprOp.TheVariants.{Add, Or, Adc, Sbb, And, Sub, Xor, Cmp, Test, Imul, Inc, Dec, Adcx, Adox}
 use Rattle.row_table.specs.declared.operations.BitOp.TheVariants.{Shld, Shrd, Bt, Bts, Btr, Btc, Popcnt, Bsf, Tzcnt, Bsr, Lzcnt}
@@ -108,6 +108,8 @@ two_byte =
     ++ sized 0xA3 EvGv (Bit Bt) ∷ sized 0xA4 EvGvIb (Bit Shld) ∷ sized 0xA5 EvGvCl (Bit Shld) ∷ []
     -- AB, AC, AD: BTS Ev,Gv; SHRD Ev,Gv,Ib; Ev,Gv,CL
     ++ sized 0xAB EvGv (Bit Bts) ∷ sized 0xAC EvGvIb (Bit Shrd) ∷ sized 0xAD EvGvCl (Bit Shrd) ∷ []
+    -- NP AE /2, /3, memory only: LDMXCSR and STMXCSR of 32 bits
+    ++ np (digit 2 (scalar 0xAE M 32 (Core Ldmxcsr))) ∷ np (digit 3 (scalar 0xAE M 32 (Core Stmxcsr))) ∷ []
     -- NP AE /5, /6, /7, registers only: the fences, no-operations
     ++ np (digit 5 (always 0xAE R (Core Nop))) ∷ np (digit 6 (always 0xAE R (Core Nop)))
     ∷ np (digit 7 (always 0xAE R (Core Nop))) ∷ []

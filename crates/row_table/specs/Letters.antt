@@ -4,7 +4,7 @@ use Rattle.std.specs.Prelude.{ℕ, zero, suc, ◌+◌, Option, Some, None, List,
 use Rattle.std.specs.List.{list_any}
 use Rattle.std.specs.Option.{is_some}
 use Rattle.row_table.specs.declared.kinds.Operands.{Operands}
-use Rattle.row_table.specs.declared.kinds.Operands.TheVariants.{Implied, OpcodeReg, RaxOpcodeReg, OpcodeRegIb, OpcodeRegIv, Ib, Iw, Iz, Jb, Jz, AlIb, RaxIz, AlOb, RaxOv, ObAl, OvRax, Eb, Ev, EbGb, EvGv, GbEb, GvEv, GvEb, GvEw, GvEd, EbIb, EvIb, EvIz, EbOne, EvOne, EbCl, EvCl, GvEvIb, GvEvIz, EvGvIb, EvGvCl, GvM, MvGv, M as MemoryAlone, R as RegisterAlone, ByteD0, GvBvEv, GvEvBv, BvEv, VxHxWx, VxHxWxIb, VxHxWdq, VxHxWxLx, VxWx, VxWxIb, VxWxXmm0, WxVx, WxVxIb, HxWxIb, HxUxIb, UxIb, VxMx, MxVx, VxHxMx, MxHxVx, VxHxUx, UxHxVx, VxEv, EvVx, VxHxEvIb, EvVxIb, VxRv, GvUx, GvUxIb, VxVm, VxVmHx, VmVx, KxHxWx, KxHxWxIb, KxUx, VxKx, KxKx, KxKxKx, KxKxIb, KxKm, MxKx, KxRv, GvKx}
+use Rattle.row_table.specs.declared.kinds.Operands.TheVariants.{Implied, OpcodeReg, RaxOpcodeReg, OpcodeRegIb, OpcodeRegIv, Ib, Iw, Iz, Jb, Jz, AlIb, RaxIz, AlOb, RaxOv, ObAl, OvRax, Eb, Ev, EbGb, EvGv, GbEb, GvEv, GvEb, GvEw, GvEd, EbIb, EvIb, EvIz, EbOne, EvOne, EbCl, EvCl, GvEvIb, GvEvIz, EvGvIb, EvGvCl, GvM, MvGv, M as MemoryAlone, R as RegisterAlone, ByteD0, GyByEy, GyEyBy, ByEy, GyEyIb, VxHxWx, VxHxWxIb, VxHxWdq, VxHxWxLx, VxWx, VxWxIb, VxWxXmm0, WxVx, WxVxIb, HxWxIb, HxUxIb, UxIb, VxMx, MxVx, VxHxMx, MxHxVx, VxHxUx, UxHxVx, VxEv, EvVx, VxHxEvIb, EvVxIb, VxRv, GvUx, GvUxIb, VxVm, VxVmHx, VmVx, KxHxWx, KxHxWxIb, KxUx, VxKx, KxKx, KxKxKx, KxKxIb, KxKm, MxKx, KxRv, GvKx}
 use Rattle.row_table.specs.declared.kinds.Spot.{Spot}
 use Rattle.row_table.specs.declared.kinds.Spot.TheVariants.{Absent, Reg, Rm, Vvvv, OpcodeReg as InOpcode, Rax, Cl, Memory as InMemory, VectorMemory, Offset, Immediate, Relative, One as NumberOne, VectorReg, VectorRm, VectorVvvv, VectorImmediate, Xmm0, OpmaskReg, OpmaskRm, OpmaskVvvv}
 use Rattle.row_table.specs.declared.kinds.Extent.{Extent}
@@ -117,9 +117,10 @@ letters MvGv = M v ∷ G v ∷ []
 letters MemoryAlone = M own ∷ []
 letters RegisterAlone = R own ∷ []
 letters ByteD0 = Exact 0xD0 ∷ []
-letters GvBvEv = G y ∷ B y ∷ E y ∷ []
-letters GvEvBv = G y ∷ E y ∷ B y ∷ []
-letters BvEv = B y ∷ E y ∷ []
+letters GyByEy = G y ∷ B y ∷ E y ∷ []
+letters GyEyBy = G y ∷ E y ∷ B y ∷ []
+letters ByEy = B y ∷ E y ∷ []
+letters GyEyIb = G y ∷ E y ∷ I b ∷ []
 letters VxHxWx = V x ∷ H x ∷ W x ∷ []
 letters VxHxWxIb = V x ∷ H x ∷ W x ∷ I b ∷ []
 letters VxHxWdq = V x ∷ H x ∷ W dq ∷ []

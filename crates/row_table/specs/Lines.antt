@@ -1,7 +1,7 @@
 -- The words in which the listing of the rows is written.
 use Rattle.std.specs.Prelude.{ℕ, zero, suc, ◌+◌, ◌*◌, true, false, Some, None, List, [], ◌∷◌, map}
-use Rattle.row_table.specs.declared.kinds.Class.TheVariants.{Legacy}
-use Rattle.row_table.specs.declared.kinds.Prefix.TheVariants.{Unmarked, Np, P66, PF3}
+use Rattle.row_table.specs.declared.kinds.Class.TheVariants.{Legacy, Vex}
+use Rattle.row_table.specs.declared.kinds.Prefix.TheVariants.{Unmarked, Np, P66, PF3, PF2}
 use Rattle.row_table.specs.declared.kinds.Operands.{Operands}
 use Rattle.row_table.specs.declared.kinds.Operands.TheVariants.{EbGb, EvGv, GbEb, GvEv, AlIb, RaxIz}
 use Rattle.row_table.specs.declared.kinds.Tuple.TheVariants.{NoTuple}
@@ -63,6 +63,10 @@ p66 r = record r { prefix = P66 }
 abbrev pub pf3 : Row → Row
 pf3 r = record r { prefix = PF3 }
 
+-- with the mark F2
+abbrev pub pf2 : Row → Row
+pf2 r = record r { prefix = PF2 }
+
 -- where W is 0
 abbrev pub without_w : Row → Row
 without_w r = record r { w = Some false }
@@ -78,6 +82,10 @@ aligned r = record r { align = Sixteen }
 -- from x86-64-v3 on
 abbrev pub level_3 : Row → Row
 level_3 r = record r { level = V3 }
+
+-- a row of VEX for general registers or memory of 32 bits, where L is 0 and W is anything, from x86-64-v3 on
+abbrev pub vex : ℕ → Operands → Op → Row
+vex opcode operands op = level_3 (record (scalar opcode operands 32 op) { class = Vex })
 
 -- a row for each of n opcodes, from the row's own up
 abbrev pub opcodes : ℕ → Row → List Row

@@ -1,10 +1,11 @@
 -- The row table: the rows in order of class, map and opcode.
-use Rattle.std.specs.Prelude.{ℕ, ◌+◌, ◌*◌, List}
+use Rattle.std.specs.Prelude.{ℕ, ◌+◌, ◌*◌, List, ◌++◌}
 use Rattle.row_table.specs.declared.kinds.Class.{Class}
 use Rattle.row_table.specs.declared.kinds.Class.TheVariants.{Legacy, Vex, Evex}
 use Rattle.row_table.specs.declared.kinds.Row.{Row}
 use Rattle.row_table.specs.declared.table.TheConstants.{ROWS, STARTS}
 use Rattle.row_table.specs.Legacy.{legacy}
+use Rattle.row_table.specs.Vex.{vex_rows}
 
 abbrev pub class_number : Class → ℕ
 class_number Legacy = 0
@@ -20,7 +21,7 @@ row_place r = place r.class r.map r.opcode
 
 -- the row table, in order of place; rows of one place stand as the listing has them
 unfoldable pub rows : List Row
-rows = legacy
+rows = legacy ++ vex_rows
 
 -- the rows as the code has them
 unfoldable pub table : List Row

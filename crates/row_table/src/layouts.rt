@@ -291,9 +291,10 @@ pub fn layout(operands: Operands) -> Layout
         Operands::M => modrm(Form::Memory, MEMORY_OWN, NOWHERE, NOWHERE, 0),
         Operands::R => modrm(Form::Register, RM_OWN, NOWHERE, NOWHERE, 0),
         Operands::ByteD0 => modrm(Form::Exactly(0xd0), NOWHERE, NOWHERE, NOWHERE, 0),
-        Operands::GvBvEv => modrm(Form::Either, REG_SCALAR, VVVV_SCALAR, RM_SCALAR, 0),
-        Operands::GvEvBv => modrm(Form::Either, REG_SCALAR, RM_SCALAR, VVVV_SCALAR, 0),
-        Operands::BvEv => modrm(Form::Either, VVVV_SCALAR, RM_SCALAR, NOWHERE, 0),
+        Operands::GyByEy => modrm(Form::Either, REG_SCALAR, VVVV_SCALAR, RM_SCALAR, 0),
+        Operands::GyEyBy => modrm(Form::Either, REG_SCALAR, RM_SCALAR, VVVV_SCALAR, 0),
+        Operands::ByEy => modrm(Form::Either, VVVV_SCALAR, RM_SCALAR, NOWHERE, 0),
+        Operands::GyEyIb => modrm(Form::Either, REG_SCALAR, RM_SCALAR, IMMEDIATE_BYTE, 1),
         Operands::VxHxWx => modrm(Form::Either, VECTOR_REG, VECTOR_VVVV, VECTOR_RM, 0),
         Operands::VxHxWxIb => Layout {
             fourth: IMMEDIATE_BYTE,

@@ -33,6 +33,66 @@ fn found(rep: u8, p66: bool, w: bool, map: u8, opcode: u8, modrm: Option<u8>) ->
     Some(row(find(&fields)?))
 }
 
+/// The operation and the width of the row of a VEX instruction with pp, W, L, map, opcode and ModRM byte.
+fn vex_found(pp: u8, w: bool, l: u8, map: u8, opcode: u8, modrm: u8) -> (&'static str, u8) {
+    let fields = Fields {
+        class: Class::Vex,
+        segment: 0,
+        lock: false,
+        rep: 0,
+        p66: false,
+        p67: false,
+        rex: false,
+        w,
+        r: 0,
+        x: 0,
+        b: 0,
+        v: 0,
+        l,
+        pp,
+        map,
+        opcode,
+        modrm: Some(modrm),
+        sib: None,
+        disp: 0,
+        disp_len: 0,
+        imm: 0,
+        imm_len: 0,
+        z: false,
+        bc: false,
+        aaa: 0,
+    };
+    match find(&fields) {
+        None => ("none", 0),
+        Some(index) => {
+            let row = row(index);
+            (name(row.op), row.width)
+        }
+    }
+}
+
+/// The name of an operation that has rows of VEX.
+fn name(op: Op) -> &'static str {
+    match op {
+        Op::Core(CoreOp::Ldmxcsr) => "ldmxcsr",
+        Op::Core(CoreOp::Stmxcsr) => "stmxcsr",
+        Op::Gpr(GprOp::Mulx) => "mulx",
+        Op::Bit(BitOp::Andn) => "andn",
+        Op::Bit(BitOp::Blsr) => "blsr",
+        Op::Bit(BitOp::Blsmsk) => "blsmsk",
+        Op::Bit(BitOp::Blsi) => "blsi",
+        Op::Bit(BitOp::Bzhi) => "bzhi",
+        Op::Bit(BitOp::Pext) => "pext",
+        Op::Bit(BitOp::Pdep) => "pdep",
+        Op::Bit(BitOp::Bextr) => "bextr",
+        Op::Bit(BitOp::Shlx) => "shlx",
+        Op::Bit(BitOp::Sarx) => "sarx",
+        Op::Bit(BitOp::Shrx) => "shrx",
+        Op::Bit(BitOp::Rorx) => "rorx",
+        _ => "another",
+    }
+}
+
 fn is_nop(row: Option<Row>) -> bool {
     match row {
         None => false,
@@ -107,6 +167,42 @@ fn known_instructions_have_their_rows(rt: HostRuntime) {
 }
 
 #[test]
+fn known_instructions_of_vex_have_their_rows(rt: HostRuntime) {
+    for (pp, w, l, map, opcode, modrm, want) in [
+        (0, false, 0, 1, 0xae, 0x10, ("ldmxcsr", 32)),
+        (0, true, 0, 1, 0xae, 0x18, ("stmxcsr", 32)),
+        // With a register, with 66, and of 256 bits.
+        (0, false, 0, 1, 0xae, 0xd0, ("none", 0)),
+        (1, false, 0, 1, 0xae, 0x10, ("none", 0)),
+        (0, false, 1, 1, 0xae, 0x10, ("none", 0)),
+        (0, false, 0, 2, 0xf2, 0xc1, ("andn", 32)),
+        (0, true, 0, 2, 0xf2, 0xc1, ("andn", 64)),
+        (0, false, 1, 2, 0xf2, 0xc1, ("none", 0)),
+        (0, false, 0, 2, 0xf3, 0xc8, ("blsr", 32)),
+        (0, true, 0, 2, 0xf3, 0xd0, ("blsmsk", 64)),
+        (0, false, 0, 2, 0xf3, 0x18, ("blsi", 32)),
+        (0, false, 0, 2, 0xf3, 0xc0, ("none", 0)),
+        (0, false, 0, 2, 0xf3, 0xe0, ("none", 0)),
+        (0, false, 0, 2, 0xf5, 0xc1, ("bzhi", 32)),
+        (1, false, 0, 2, 0xf5, 0xc1, ("none", 0)),
+        (2, true, 0, 2, 0xf5, 0xc1, ("pext", 64)),
+        (3, false, 0, 2, 0xf5, 0xc1, ("pdep", 32)),
+        (3, true, 0, 2, 0xf6, 0xc1, ("mulx", 64)),
+        (0, false, 0, 2, 0xf6, 0xc1, ("none", 0)),
+        (0, false, 0, 2, 0xf7, 0xc1, ("bextr", 32)),
+        (1, false, 0, 2, 0xf7, 0xc1, ("shlx", 32)),
+        (2, false, 0, 2, 0xf7, 0xc1, ("sarx", 32)),
+        (3, true, 0, 2, 0xf7, 0xc1, ("shrx", 64)),
+        (3, false, 0, 3, 0xf0, 0xc1, ("rorx", 32)),
+        (3, true, 0, 3, 0xf0, 0x01, ("rorx", 64)),
+        (2, false, 0, 3, 0xf0, 0xc1, ("none", 0)),
+    ] {
+        let found = vex_found(pp, w, l, map, opcode, modrm);
+        assert_eq!(rt; found, want, "at {opcode} of map {map} with {pp}");
+    }
+}
+
+#[test]
 fn opcodes_have_their_shapes(rt: HostRuntime) {
     for (map, opcode, want) in [
         (0, 0xb8, Some((false, 11))),
@@ -131,7 +227,10 @@ fn opcodes_have_their_shapes(rt: HostRuntime) {
         let found = shape(Class::Legacy, map, opcode).map(|s| (s.modrm, s.imm));
         assert!(rt; found == want, "at {opcode} of map {map}");
     }
+    let vex = shape(Class::Vex, 3, 0xf0).map(|s| (s.modrm, s.imm));
+    assert!(rt; vex == Some((true, 1)));
     assert!(rt;
         is_used(Class::Legacy, 2) && !is_used(Class::Legacy, 3) && !is_used(Class::Evex, 0)
     );
+    assert!(rt; !is_used(Class::Vex, 0) && is_used(Class::Vex, 1) && is_used(Class::Vex, 3));
 }

@@ -1,0 +1,43 @@
+-- The instructions of VEX, in the order of the SDM's opcode maps (Intel SDM volume 2, appendix A.3), by map and opcode: a comment
+-- gives what a line of the map says, and the term below it the rows. In all of them L is 0.
+use Rattle.std.specs.Prelude.{List, [], ◌∷◌, ◌++◌}
+use Rattle.row_table.specs.declared.kinds.Operands.TheVariants.{M, GyByEy, GyEyBy, ByEy, GyEyIb}
+use Rattle.row_table.specs.declared.kinds.Row.{Row}
+use Rattle.row_table.specs.declared.operations.Op.TheVariants.{Core, Gpr, Bit}
+use Rattle.row_table.specs.declared.operations.CoreOp.TheVariants.{Ldmxcsr, Stmxcsr}
+use Rattle.row_table.specs.declared.operations.GprOp.TheVariants.{Mulx}
+use Rattle.row_table.specs.declared.operations.BitOp.TheVariants.{Andn, Blsr, Blsmsk, Blsi, Bzhi, Pext, Pdep, Bextr, Shlx, Sarx, Shrx, Rorx}
+use Rattle.row_table.specs.Lines.{vex, digit, np, p66, pf3, pf2, by_w, in_map}
+
+-- the map of 0F (table A-3)
+unfoldable pub vex_0f : List Row
+vex_0f =
+    -- NP AE /2, /3, memory only: VLDMXCSR and VSTMXCSR of 32 bits
+    np (digit 2 (vex 0xAE M (Core Ldmxcsr))) ∷ np (digit 3 (vex 0xAE M (Core Stmxcsr))) ∷ []
+
+-- the map of 0F38 (table A-4), where y is 32 bits, and 64 with W
+unfoldable pub vex_0f38 : List Row
+vex_0f38 =
+    -- NP F2: ANDN Gy,By,Ey
+    by_w (np (vex 0xF2 GyByEy (Bit Andn)))
+    -- NP F3 /1, /2, /3: group 17, BLSR, BLSMSK, BLSI By,Ey
+    ++ by_w (np (digit 1 (vex 0xF3 ByEy (Bit Blsr)))) ++ by_w (np (digit 2 (vex 0xF3 ByEy (Bit Blsmsk))))
+    ++ by_w (np (digit 3 (vex 0xF3 ByEy (Bit Blsi))))
+    -- NP F5, F3 F5, F2 F5: BZHI Gy,Ey,By; PEXT Gy,By,Ey; PDEP Gy,By,Ey
+    ++ by_w (np (vex 0xF5 GyEyBy (Bit Bzhi))) ++ by_w (pf3 (vex 0xF5 GyByEy (Bit Pext)))
+    ++ by_w (pf2 (vex 0xF5 GyByEy (Bit Pdep)))
+    -- F2 F6: MULX Gy,By,Ey: the upper half of the product in Gy, the lower in By
+    ++ by_w (pf2 (vex 0xF6 GyByEy (Gpr Mulx)))
+    -- NP F7, 66 F7, F3 F7, F2 F7: BEXTR, SHLX, SARX, SHRX Gy,Ey,By
+    ++ by_w (np (vex 0xF7 GyEyBy (Bit Bextr))) ++ by_w (p66 (vex 0xF7 GyEyBy (Bit Shlx)))
+    ++ by_w (pf3 (vex 0xF7 GyEyBy (Bit Sarx))) ++ by_w (pf2 (vex 0xF7 GyEyBy (Bit Shrx)))
+
+-- the map of 0F3A (table A-5)
+unfoldable pub vex_0f3a : List Row
+vex_0f3a =
+    -- F2 F0: RORX Gy,Ey,Ib
+    by_w (pf2 (vex 0xF0 GyEyIb (Bit Rorx)))
+
+-- the rows of VEX
+unfoldable pub vex_rows : List Row
+vex_rows = in_map 1 vex_0f ++ in_map 2 vex_0f38 ++ in_map 3 vex_0f3a
