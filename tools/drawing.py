@@ -21,7 +21,7 @@ FEATURES = {"Movbe": "movbe", "Tzcnt": "bmi1", "Lzcnt": "abm", "Adcx": "adx", "A
 # How many bytes an immediate has: z and v are those of the operand size, a those of an address.
 IMMEDIATES = {"AlIb": "1", "RaxIz": "z", "Iz": "z", "GvEvIz": "z", "Ib": "1", "GvEvIb": "1", "Jb": "1", "EbIb": "1", "EvIz": "z",
               "EvIb": "1", "AlOb": "a", "RaxOv": "a", "ObAl": "a", "OvRax": "a", "OpcodeRegIb": "1", "OpcodeRegIv": "v",
-              "Iw": "2", "Jz": "4", "EvGvIb": "1"}
+              "Iw": "2", "Jz": "4", "EvGvIb": "1", "GyEyIb": "1"}
 WITHOUT_MODRM = ("AlIb RaxIz OpcodeReg Iz Ib Jb RaxOpcodeReg Implied AlOb RaxOv ObAl OvRax OpcodeRegIb OpcodeRegIv Iw "
                  "Jz").split()
 
@@ -155,7 +155,7 @@ def vex(pick, row):
     has_vvvv = listing.names_vvvv(row) or pick.random() < .03
     inverted = ~(pick.getrandbits(4) if has_vvvv else 0) & 15
     w = pick.getrandbits(1) if row.w == "-" else int(row.w)
-    high = pick.getrandbits(3)
+    high = pick.getrandbits(3) | pick.choice([0, 3])
     low = inverted << 3 | length << 2 | listing.MARKS.index(row.mark)
     if row.map == 1 and high & 3 == 3 and w == 0 and pick.random() < .8:
         return bytes([0xC5, high >> 2 << 7 | low])
@@ -369,13 +369,13 @@ def is_drawn(row, have):
 
 
 def drawn(pick, count, only="", kind=""):
-    """So many draws, of one operation alone or of one class where it is named. What matches no row, or is longer than 15 bytes, is
-    drawn again."""
+    """So many draws, of one operation alone or of one class where it is named; none where this processor has no such row. What
+    matches no row, or is longer than 15 bytes, is drawn again."""
     have = processor_features()
     table = listing.rows()
-    choices = [row for row in table if kind in ("", row.kind)]
+    choices = [row for row in table if kind in ("", row.kind) and only in ("", row.op) and is_drawn(row, have)]
     draws = []
-    while len(draws) < count:
+    while choices and len(draws) < count:
         drawing = Drawing(pick, table, pick.choice(choices))
         row = drawing.row
         if row is None or only not in ("", row.op) or not is_drawn(row, have):

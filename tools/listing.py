@@ -88,7 +88,7 @@ def may_precede_vex(front):
 
 def names_vvvv(row):
     """Whether a row has an operand in vvvv. Where it has none, vvvv has to be 1111."""
-    return bool(re.search("Bv|Hx|KxKxKx", row.operands))
+    return bool(re.search("By|Hx|KxKxKx", row.operands))
 
 
 def takes(row, modrm):
