@@ -1,6 +1,4 @@
 """A program over `core_step` that takes steps of the machine that `xemu` runs, from starts that are given line by line."""
-CRATES = ("gpr_flags", "machine_state", "guest_pages", "row_table", "form_scan", "legacy_decode", "x_decode", "gpr_units",
-          "bit_units", "string_unit", "core_step")
 USES = "core_step"
 ANSWER = r"(done|de|bp|ud|gp|pf)( [0-9a-f]+){4}( @?[0-9a-f]+=[0-9a-f]+)*"
 
