@@ -12,7 +12,7 @@ MAIN = """\
 //! Reads starts, one a line, takes a step of the machine from each, and prints where it got to.
 #![tactic(auto)]
 
-use core_step::{Acted, Fault, Fetched, Flags, Gprs, Kind, Machine, Pages, Perms};
+use core_step::{Acted, Fault, Fetched, Flags, Gprs, Kind, Machine, Pages, Perms, VecFile};
 use std::io;
 
 /// A line's numbers are in hexadecimal, and its numbers of several bytes in a record have the lowest first.
@@ -97,6 +97,7 @@ fn machine(rt: &HostRuntime, line: &Line) -> Result<Machine, io::Error> {
         gprs: Gprs::new(),
         flags: Flags::none(),
         rip: 0,
+        vec: VecFile::new(),
         pages,
         fs: 0,
         gs: 0,
@@ -114,6 +115,7 @@ fn begin(m: &mut Machine, line: &Line, page: &[u8]) {
     m.pages.set_perms(line.place(1), Perms(if writable { 3 } else { 5 }));
     m.gprs = registers(line);
     m.flags = Flags::from_word(line.number(128));
+    m.vec.set_mxcsr((line.number(ENDS) >> 32) as u32);
     m.rip = line.place(2);
 }
 
@@ -153,8 +155,7 @@ fn answer(rt: &HostRuntime, m: &mut Machine, first: &[u8], line: &Line) -> io::R
     let page = data_page(first, line);
     begin(m, line, &page);
     let (how, at) = ending(run(m, line.byte(ENDS + 3)));
-    let mxcsr = line.number(ENDS) >> 32;
-    print!(rt; "{how} {at:x} {:x} {:x} {mxcsr:x}", m.rip, m.flags.word())?;
+    print!(rt; "{how} {at:x} {:x} {:x} {:x}", m.rip, m.flags.word(), m.vec.mxcsr())?;
     for n in 0..16 {
         let value = m.gprs.get(n as u8);
         if value != line.number(8 * n) {

@@ -12,12 +12,12 @@ use Rattle.row_table.specs.declared.operations.StringOp.{StringOp}
 use Rattle.row_table.specs.declared.operations.StringOp.TheVariants.{Movs, Cmps, Stos, Lods, Scas}
 use Rattle.row_table.specs.Rows.{rows}
 use Rattle.string_unit.specs.Strings.{string_accesses}
-use Rattle.core_step.specs.declared.kinds.Size.{Size}
-use Rattle.core_step.specs.declared.kinds.Size.TheVariants.{Byte, Word, Double, Quad}
+use Rattle.core_step.specs.declared.sizes.Size.{Size}
+use Rattle.core_step.specs.declared.sizes.Size.TheVariants.{Byte, Word, Double, Quad}
 use Rattle.core_step.specs.declared.kinds.Operand.{Operand}
-use Rattle.core_step.specs.declared.kinds.Operand.TheVariants.{Absent, Register, HighByte, Memory, Number}
+use Rattle.core_step.specs.declared.kinds.Operand.TheVariants.{Absent, Register, HighByte, Memory, Number, Mxcsr}
 use Rattle.core_step.specs.declared.kinds.Instruction.{Instruction}
-use Rattle.core_step.specs.declared.kinds.PairPlan.{PairPlan}
+use Rattle.core_step.specs.declared.pair.PairPlan.{PairPlan}
 use Rattle.core_step.specs.declared.kinds.Plan.{Plan}
 use Rattle.core_step.specs.declared.kinds.Plan.TheVariants.{Plain, OnStrings, OnPair}
 use Rattle.core_step.specs.Size.{bytes_in}
@@ -98,6 +98,7 @@ operand-few kind (Register number) size = few-none 1
 operand-few kind (HighByte number) size = few-none 1
 operand-few kind (Memory addr) size = few-one _ (omega (arith, bytes-short size))
 operand-few kind (Number number) size = few-none 1
+operand-few kind Mxcsr size = few-none 1
 
 plain-few : (i : Instruction) → AreFew 2 (accesses_of i)
 unfolding accesses_of

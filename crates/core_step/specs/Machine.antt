@@ -5,7 +5,7 @@ use Rattle.machine_state.specs.declared.kinds.Kind.TheVariants.{Write}
 use Rattle.machine_state.specs.declared.kinds.Miss.{Miss}
 use Rattle.machine_state.specs.declared.kinds.Miss.TheVariants.{Away}
 use Rattle.machine_state.specs.Memory.{Memory, Swap}
-use Rattle.machine_state.specs.State.{State, initial_extended}
+use Rattle.machine_state.specs.State.{State}
 use Rattle.guest_pages.specs.Pages.{byte_of, memory_of}
 use Rattle.guest_pages.specs.Changes.{KeepsTable}
 use Rattle.row_table.specs.declared.kinds.Row.{Row}
@@ -22,13 +22,13 @@ use Rattle.core_step.specs.Plan.{plan_of, plan_accesses}
 use Rattle.core_step.specs.Alignment.{is_misaligned}
 use Rattle.core_step.specs.Act.{performed}
 
--- the processor of a machine; what the machine doesn't have is as at the start
+-- the processor of a machine
 abbrev pub processor_in : Machine → Processor
 processor_in m = record {
   gprs = m.gprs;
   flags = m.flags;
   rip = m.rip;
-  extended = initial_extended;
+  extended = m.vec;
   fs = m.fs;
   gs = m.gs;
   steps = m.steps;

@@ -10,7 +10,7 @@ ghost use Rattle.xemu_top.specs.Command.{image_fits as image_fits_spec, header_f
 ghost use Rattle.xemu_top.specs.Loading.{IsLoaded, LoadCaused, AreMapped, image_perms};
 
 use byteorder::{ByteOrder, LittleEndian};
-use core_step::Machine;
+use core_step::{Machine, VecFile};
 use gpr_flags::{Flags, Gprs};
 use guest_pages::{Pages, Perms};
 use host_edge::Host;
@@ -183,6 +183,7 @@ pub(crate) fn first_machine(alloc: Global, bytes: &[u8]) -> Result<Machine, Allo
         gprs: Gprs::new(),
         flags: Flags::none(),
         rip: number_from(bytes, 24),
+        vec: VecFile::new(),
         pages,
         fs: 0,
         gs: 0,
