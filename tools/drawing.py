@@ -301,7 +301,8 @@ class Drawing:
         if op in ("Jmp", "Call") and self.row.operands == "Ev":
             self.prepare_jump()
         if op == "Ldmxcsr":
-            self.put = pick.getrandbits(16 if pick.random() < .8 else 32).to_bytes(4, "little")
+            reserved = 1 << pick.randrange(16, 32) if pick.random() < .2 else 0
+            self.put = (pick.getrandbits(16) | reserved).to_bytes(4, "little")
 
     def named(self, register):
         """Whether an address that was chosen counts from this register."""
