@@ -1,5 +1,6 @@
 //! Known byte lists. What is expected is the SDM's.
 use crate::*;
+use row_table::Class;
 
 /// What the test looks at.
 #[derive(Clone, Copy, Debug, PartialEq, Eq)]
@@ -154,6 +155,89 @@ fn cut_and_unknown_bytes_are_told_apart(rt: HostRuntime) {
         &[0x0f, 0x38, 0xdc],
         &[0x0f, 0x3a],
         &[0x66, 0x48, 0x27],
+    ];
+    for bytes in unknown {
+        assert!(rt; matches!(scan(bytes), Scan::Dead), "at {bytes:?}");
+    }
+}
+
+/// What VEX says: the map, pp, W, L, the bits R, X and B, vvvv and the immediate.
+type Said = (u8, u8, bool, u8, (u8, u8, u8), u8, u64);
+
+fn said_of(bytes: &[u8]) -> Option<Said> {
+    match scan(bytes) {
+        Scan::Whole(f, _) => match f.class {
+            Class::Vex => Some((f.map, f.pp, f.w, f.l, (f.r, f.x, f.b), f.v, f.imm)),
+            Class::Legacy | Class::Evex => None,
+        },
+        Scan::Short | Scan::Dead => None,
+    }
+}
+
+#[test]
+fn fields_of_vex_are_told(rt: HostRuntime) {
+    let rows: [(&[u8], Said); 9] = [
+        // andn %ecx, %ebx, %eax and the same of %rcx, %r15, %rax.
+        (
+            &[0xc4, 0xe2, 0x60, 0xf2, 0xc1],
+            (2, 0, false, 0, (0, 0, 0), 3, 0),
+        ),
+        (
+            &[0xc4, 0xe2, 0x80, 0xf2, 0xc1],
+            (2, 0, true, 0, (0, 0, 0), 15, 0),
+        ),
+        // pext (%r8,%r9), %r10, %r11; pdep %rcx, %r15, %r8.
+        (
+            &[0xc4, 0x02, 0xaa, 0xf5, 0x1c, 0x08],
+            (2, 2, true, 0, (1, 1, 1), 10, 0),
+        ),
+        (
+            &[0xc4, 0x62, 0x83, 0xf5, 0xc1],
+            (2, 3, true, 0, (1, 0, 0), 15, 0),
+        ),
+        // shlx %r9, %r10, %r11; rorx $63, (%r8), %r9.
+        (
+            &[0xc4, 0x42, 0xb1, 0xf7, 0xda],
+            (2, 1, true, 0, (1, 0, 1), 9, 0),
+        ),
+        (
+            &[0xc4, 0x43, 0xfb, 0xf0, 0x08, 0x3f],
+            (3, 3, true, 0, (1, 0, 1), 0, 63),
+        ),
+        // vldmxcsr (%rax), and two bytes with R, vvvv, L and pp.
+        (&[0xc5, 0xf8, 0xae, 0x10], (1, 0, false, 0, (0, 0, 0), 0, 0)),
+        (&[0xc5, 0x7d, 0xae, 0x10], (1, 1, false, 1, (1, 0, 0), 0, 0)),
+        (
+            &[0xc5, 0x96, 0xae, 0x10],
+            (1, 2, false, 1, (0, 0, 0), 13, 0),
+        ),
+    ];
+    for (bytes, want) in rows {
+        assert_eq!(rt; said_of(bytes), Some(want), "at {bytes:?}");
+    }
+}
+
+#[test]
+fn cut_and_unknown_bytes_of_vex_are_told_apart(rt: HostRuntime) {
+    let cut: [&[u8]; 6] = [
+        &[0xc5],
+        &[0x48, 0xc4],
+        &[0xc4, 0xe2],
+        &[0xc4, 0xe3, 0x7b],
+        &[0xc4, 0xe3, 0x7b, 0xf0, 0xc1],
+        &[0xc5, 0xf8, 0xae, 0x5c],
+    ];
+    for bytes in cut {
+        assert!(rt; matches!(scan(bytes), Scan::Short), "at {bytes:?}");
+    }
+    // Maps 0 and 4 have no row, and in the others F2, F1 and 77 have none.
+    let unknown: [&[u8]; 6] = [
+        &[0xc4, 0xe0],
+        &[0xc4, 0xe4],
+        &[0xc4, 0xe1, 0x60, 0xf2],
+        &[0xc4, 0xe3, 0x60, 0xf1],
+        &[0xc5, 0xf8, 0x77],
+        &[0x62],
     ];
     for bytes in unknown {
         assert!(rt; matches!(scan(bytes), Scan::Dead), "at {bytes:?}");

@@ -7,3 +7,4 @@ pub mod Shaping
 pub mod Search
 pub mod Computing
 pub mod Spelled
+pub mod Listed

@@ -1,4 +1,5 @@
 pub mod Letters
+pub mod Order
 pub mod Shapes
 pub mod Lines
 pub mod Legacy

@@ -22,6 +22,21 @@ fn name(op: Op) -> &'static str {
         Op::Bit(BitOp::Bts) => "bts",
         Op::Bit(BitOp::Tzcnt) => "tzcnt",
         Op::Bit(BitOp::Bsf) => "bsf",
+        Op::Core(CoreOp::Ldmxcsr) => "ldmxcsr",
+        Op::Core(CoreOp::Stmxcsr) => "stmxcsr",
+        Op::Gpr(GprOp::Mulx) => "mulx",
+        Op::Bit(BitOp::Andn) => "andn",
+        Op::Bit(BitOp::Blsr) => "blsr",
+        Op::Bit(BitOp::Blsmsk) => "blsmsk",
+        Op::Bit(BitOp::Blsi) => "blsi",
+        Op::Bit(BitOp::Bzhi) => "bzhi",
+        Op::Bit(BitOp::Pext) => "pext",
+        Op::Bit(BitOp::Pdep) => "pdep",
+        Op::Bit(BitOp::Bextr) => "bextr",
+        Op::Bit(BitOp::Shlx) => "shlx",
+        Op::Bit(BitOp::Sarx) => "sarx",
+        Op::Bit(BitOp::Shrx) => "shrx",
+        Op::Bit(BitOp::Rorx) => "rorx",
         _ => "another",
     }
 }
@@ -45,7 +60,7 @@ fn told_of(bytes: &[u8]) -> Told {
 }
 
 /// Bytes, and what is seen in them.
-static SEEN_BYTES: [(&'static [u8], Told); 48] = [
+static SEEN_BYTES: [(&'static [u8], Told); 47] = [
     (&[0xf3, 0xc3], ("ret", 2, 0)),
     (&[0xc3, 0xc3], ("ret", 1, 0)),
     (&[0x0f, 0x05], ("syscall", 2, 0)),
@@ -93,8 +108,7 @@ static SEEN_BYTES: [(&'static [u8], Told); 48] = [
     (&[0xf2, 0x0f, 0x38, 0xf0, 0xc1], BAD),
     (&[0xf2, 0x0f, 0x38, 0xf0, 0x00], BAD),
     (&[0x8d, 0xc0], BAD),
-    // VEX and EVEX.
-    (&[0xc5, 0xf8, 0x77], BAD),
+    // EVEX.
     (&[0x62, 0xf1, 0x7d, 0x48, 0xfe, 0xc1], BAD),
     // Ends within an instruction.
     (&[], SHORT),
@@ -120,6 +134,217 @@ fn seen_bytes() -> &'static [(&'static [u8], Told)] {
 #[test]
 fn known_bytes_are_seen_as_the_manual_says(rt: HostRuntime) {
     for (bytes, want) in seen_bytes() {
+        assert_eq!(rt; told_of(bytes), *want, "at {bytes:?}");
+    }
+}
+
+/// The operation's name, the row's width, the length, the displacement and the register in vvvv.
+type VexTold = (&'static str, u8, u8, i64, u8);
+
+fn vex_told_of(bytes: &[u8]) -> Option<VexTold> {
+    match decode(bytes) {
+        Seen::Instr(decoded, len) => {
+            let row = row(decoded.row);
+            Some((name(row.op), row.width, len, decoded.disp, decoded.fields.v))
+        }
+        Seen::Short | Seen::TooLong | Seen::Bad => None,
+    }
+}
+
+/// Instructions of VEX, and MXCSR's without it, as GNU's assembler writes them.
+static VEX_BYTES: [(&'static [u8], VexTold); 40] = [
+    // andn   %ecx,%ebx,%eax
+    (&[0xc4, 0xe2, 0x60, 0xf2, 0xc1], ("andn", 32, 5, 0, 3)),
+    // andn   (%rcx),%r9d,%r10d
+    (&[0xc4, 0x62, 0x30, 0xf2, 0x11], ("andn", 32, 5, 0, 9)),
+    // andn   %rcx,%r15,%rax
+    (&[0xc4, 0xe2, 0x80, 0xf2, 0xc1], ("andn", 64, 5, 0, 15)),
+    // andn   0x8(%rcx),%r8,%rax
+    (&[0xc4, 0xe2, 0xb8, 0xf2, 0x41, 0x08], ("andn", 64, 6, 8, 8)),
+    // blsr   %ecx,%ebx
+    (&[0xc4, 0xe2, 0x60, 0xf3, 0xc9], ("blsr", 32, 5, 0, 3)),
+    // blsr   %r9,%r10
+    (&[0xc4, 0xc2, 0xa8, 0xf3, 0xc9], ("blsr", 64, 5, 0, 10)),
+    // blsmsk (%rax,%rbx,4),%edx
+    (
+        &[0xc4, 0xe2, 0x68, 0xf3, 0x14, 0x98],
+        ("blsmsk", 32, 6, 0, 2),
+    ),
+    // blsmsk -0x8(%r12,%r13,8),%rdx
+    (
+        &[0xc4, 0x82, 0xe8, 0xf3, 0x54, 0xec, 0xf8],
+        ("blsmsk", 64, 7, -8, 2),
+    ),
+    // blsi   0x12345678(%rip),%eax
+    (
+        &[0xc4, 0xe2, 0x78, 0xf3, 0x1d, 0x78, 0x56, 0x34, 0x12],
+        ("blsi", 32, 9, 0x12345678, 0),
+    ),
+    // blsi   0x1000(,%r14,2),%rbx
+    (
+        &[0xc4, 0xa2, 0xe0, 0xf3, 0x1c, 0x75, 0x00, 0x10, 0x00, 0x00],
+        ("blsi", 64, 10, 0x1000, 3),
+    ),
+    // bzhi   %ecx,%ebx,%eax
+    (&[0xc4, 0xe2, 0x70, 0xf5, 0xc3], ("bzhi", 32, 5, 0, 1)),
+    // bzhi   %r9,(%r10),%r11
+    (&[0xc4, 0x42, 0xb0, 0xf5, 0x1a], ("bzhi", 64, 5, 0, 9)),
+    // pext   %ecx,%ebx,%eax
+    (&[0xc4, 0xe2, 0x62, 0xf5, 0xc1], ("pext", 32, 5, 0, 3)),
+    // pext   (%r8,%r9,1),%r10,%r11
+    (
+        &[0xc4, 0x02, 0xaa, 0xf5, 0x1c, 0x08],
+        ("pext", 64, 6, 0, 10),
+    ),
+    // pdep   %ecx,%ebx,%eax
+    (&[0xc4, 0xe2, 0x63, 0xf5, 0xc1], ("pdep", 32, 5, 0, 3)),
+    // pdep   %rcx,%r15,%r8
+    (&[0xc4, 0x62, 0x83, 0xf5, 0xc1], ("pdep", 64, 5, 0, 15)),
+    // mulx   %ecx,%ebx,%eax
+    (&[0xc4, 0xe2, 0x63, 0xf6, 0xc1], ("mulx", 32, 5, 0, 3)),
+    // mulx   (%rsi),%r9,%r10
+    (&[0xc4, 0x62, 0xb3, 0xf6, 0x16], ("mulx", 64, 5, 0, 9)),
+    // bextr  %ecx,%ebx,%eax
+    (&[0xc4, 0xe2, 0x70, 0xf7, 0xc3], ("bextr", 32, 5, 0, 1)),
+    // bextr  %r9,(%rsp),%rax
+    (
+        &[0xc4, 0xe2, 0xb0, 0xf7, 0x04, 0x24],
+        ("bextr", 64, 6, 0, 9),
+    ),
+    // shlx   %ecx,%ebx,%eax
+    (&[0xc4, 0xe2, 0x71, 0xf7, 0xc3], ("shlx", 32, 5, 0, 1)),
+    // shlx   %r9,%r10,%r11
+    (&[0xc4, 0x42, 0xb1, 0xf7, 0xda], ("shlx", 64, 5, 0, 9)),
+    // sarx   %ecx,0x0(%rbp),%eax
+    (&[0xc4, 0xe2, 0x72, 0xf7, 0x45, 0x00], ("sarx", 32, 6, 0, 1)),
+    // sarx   %r9,0x100(%r13),%r11
+    (
+        &[0xc4, 0x42, 0xb2, 0xf7, 0x9d, 0x00, 0x01, 0x00, 0x00],
+        ("sarx", 64, 9, 0x100, 9),
+    ),
+    // shrx   %ecx,%ebx,%eax
+    (&[0xc4, 0xe2, 0x73, 0xf7, 0xc3], ("shrx", 32, 5, 0, 1)),
+    // shrx   %r9,%r10,%r11
+    (&[0xc4, 0x42, 0xb3, 0xf7, 0xda], ("shrx", 64, 5, 0, 9)),
+    // rorx   $0x5,%ecx,%eax
+    (&[0xc4, 0xe3, 0x7b, 0xf0, 0xc1, 0x05], ("rorx", 32, 6, 0, 0)),
+    // rorx   $0x3f,(%r8),%r9
+    (&[0xc4, 0x43, 0xfb, 0xf0, 0x08, 0x3f], ("rorx", 64, 6, 0, 0)),
+    // rorx   $0x1,%fs:0x4(%rax),%eax
+    (
+        &[0x64, 0xc4, 0xe3, 0x7b, 0xf0, 0x40, 0x04, 0x01],
+        ("rorx", 32, 8, 4, 0),
+    ),
+    // rorx   $0x1,0x4(%eax),%ecx
+    (
+        &[0x67, 0xc4, 0xe3, 0x7b, 0xf0, 0x48, 0x04, 0x01],
+        ("rorx", 32, 8, 4, 0),
+    ),
+    // vldmxcsr (%rax)
+    (&[0xc5, 0xf8, 0xae, 0x10], ("ldmxcsr", 32, 4, 0, 0)),
+    // vldmxcsr 0x4(%r9,%r10,2)
+    (
+        &[0xc4, 0x81, 0x78, 0xae, 0x54, 0x51, 0x04],
+        ("ldmxcsr", 32, 7, 4, 0),
+    ),
+    // vstmxcsr -0x4(%rsp)
+    (
+        &[0xc5, 0xf8, 0xae, 0x5c, 0x24, 0xfc],
+        ("stmxcsr", 32, 6, -4, 0),
+    ),
+    // ldmxcsr (%rax)
+    (&[0x0f, 0xae, 0x10], ("ldmxcsr", 32, 3, 0, 0)),
+    // stmxcsr 0x10(%r11)
+    (&[0x41, 0x0f, 0xae, 0x5b, 0x10], ("stmxcsr", 32, 5, 0x10, 0)),
+    // The same of three bytes where two are enough, and with W, which has no meaning there.
+    (&[0xc4, 0xe1, 0x78, 0xae, 0x10], ("ldmxcsr", 32, 5, 0, 0)),
+    (&[0xc4, 0xe1, 0xf8, 0xae, 0x58, 8], ("stmxcsr", 32, 6, 8, 0)),
+    // A REX byte that doesn't stand directly before VEX doesn't count.
+    (
+        &[0x48, 0x67, 0xc4, 0xe2, 0x60, 0xf2, 0xc1],
+        ("andn", 32, 7, 0, 3),
+    ),
+    (
+        &[0x48, 0x67, 0xc5, 0xf8, 0xae, 0x10],
+        ("ldmxcsr", 32, 6, 0, 0),
+    ),
+    // Of ten prefixes, the fifteen bytes that an instruction may have.
+    (
+        &[
+            0x67, 0x67, 0x67, 0x67, 0x67, 0x67, 0x67, 0x67, 0x67, 0x67, 0xc4, 0xe2, 0x60, 0xf2,
+            0xc1,
+        ],
+        ("andn", 32, 15, 0, 3),
+    ),
+];
+
+fn vex_bytes() -> &'static [(&'static [u8], VexTold)] {
+    &VEX_BYTES
+}
+
+#[test]
+fn instructions_of_vex_are_seen_as_the_assembler_writes_them(rt: HostRuntime) {
+    for (bytes, want) in vex_bytes() {
+        assert_eq!(rt; vex_told_of(bytes), Some(*want), "at {bytes:?}");
+    }
+}
+
+/// What is no instruction, or none yet, and what is only the beginning of one.
+static VEX_REFUSED: [(&'static [u8], Told); 32] = [
+    // 66, F2, F3, LOCK or REX before VEX.
+    (&[0x66, 0xc4, 0xe2, 0x60, 0xf2, 0xc1], BAD),
+    (&[0xf2, 0xc4, 0xe2, 0x60, 0xf2, 0xc1], BAD),
+    (&[0xf3, 0xc4, 0xe2, 0x60, 0xf2, 0xc1], BAD),
+    (&[0xf0, 0xc4, 0xe2, 0x60, 0xf2, 0x01], BAD),
+    (&[0x40, 0xc4, 0xe2, 0x60, 0xf2, 0xc1], BAD),
+    (&[0x48, 0xc4, 0xe2, 0x60, 0xf2, 0xc1], BAD),
+    (&[0x66, 0xc5, 0xf8, 0xae, 0x10], BAD),
+    (&[0x48, 0xc5, 0xf8, 0xae, 0x10], BAD),
+    // L of 256 bits.
+    (&[0xc4, 0xe2, 0x64, 0xf2, 0xc1], BAD),
+    (&[0xc5, 0xfc, 0xae, 0x10], BAD),
+    // vvvv isn't 1111 where it has no use: RORX and VLDMXCSR.
+    (&[0xc4, 0xe3, 0x73, 0xf0, 0xc1, 5], BAD),
+    (&[0xc5, 0xf0, 0xae, 0x10], BAD),
+    // Maps and opcodes without a row, and a pp that no row of the opcode has.
+    (&[0xc4, 0xe0, 0x60, 0xf2, 0xc1], BAD),
+    (&[0xc4, 0xe4, 0x60, 0xf2, 0xc1], BAD),
+    (&[0xc4, 0xff, 0x60, 0xf2, 0xc1], BAD),
+    (&[0xc4, 0xe1, 0x60, 0xf2, 0xc1], BAD),
+    (&[0xc4, 0xe2, 0x61, 0xf2, 0xc1], BAD),
+    (&[0xc4, 0xe2, 0x60, 0xf3, 0xc1], BAD),
+    (&[0xc5, 0xf9, 0xae, 0x10], BAD),
+    // VLDMXCSR of a register, and VZEROUPPER, which has no row.
+    (&[0xc5, 0xf8, 0xae, 0xd0], BAD),
+    (&[0xc5, 0xf8, 0x77], BAD),
+    // LES and LDS of 32-bit code are VEX, whatever follows.
+    (&[0xc4, 0x00], BAD),
+    (&[0xc5, 0x00, 0x00], BAD),
+    // Ends within an instruction.
+    (&[0xc4], SHORT),
+    (&[0xc5], SHORT),
+    (&[0x66, 0xc5], SHORT),
+    (&[0xc4, 0xe2], SHORT),
+    (&[0xc4, 0xe2, 0x60], SHORT),
+    (&[0xc4, 0xe2, 0x60, 0xf2], SHORT),
+    (&[0xc4, 0xe3, 0x7b, 0xf0, 0xc1], SHORT),
+    (&[0xc5, 0xf8, 0xae, 0x5c, 0x24], SHORT),
+    (
+        &[
+            0x67, 0x67, 0x67, 0x67, 0x67, 0x67, 0x67, 0x67, 0x67, 0x67, 0x67, 0xc4, 0xe2, 0x60,
+            0xf2, 0xc1,
+        ],
+        TOO_LONG,
+    ),
+];
+
+fn vex_refused() -> &'static [(&'static [u8], Told)] {
+    &VEX_REFUSED
+}
+
+#[test]
+fn no_instruction_of_vex_is_seen_in_other_bytes(rt: HostRuntime) {
+    for (bytes, want) in vex_refused() {
         assert_eq!(rt; told_of(bytes), *want, "at {bytes:?}");
     }
 }
