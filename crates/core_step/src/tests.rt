@@ -217,6 +217,20 @@ fn operations_of_vex_are_those_of_a_processor(rt: HostRuntime) -> Result<(), Fai
     Ok(())
 }
 
+#[test]
+fn moves_of_mxcsr_are_those_of_a_processor(rt: HostRuntime) -> Result<(), Fail> {
+    for (before, row, after) in processor::mxcsr_rows() {
+        let mut m = machine(&rt, rt.alloc(), row.0)?;
+        begin(&rt, &mut m, &row.1);
+        assert!(rt; *before < 0x1_0000);
+        m.vec.set_mxcsr(*before);
+        assert_eq!(rt; step(&rt, &mut m), Acted::Done, "at {:?}", row.0);
+        compare(&rt, &m, row);
+        assert_eq!(rt; m.vec.mxcsr(), *after, "MXCSR at {:?}", row.0);
+    }
+    Ok(())
+}
+
 // LDMXCSR [rbx] and STMXCSR [rbx + 4] of both classes, and with a W that doesn't count.
 #[rattlefmt::skip]
 static CONTROL: [(&[u8], &[u8]); 4] = [
@@ -256,9 +270,17 @@ fn mxcsr_is_loaded_and_stored(rt: HostRuntime) -> Result<(), Fail> {
             assert_eq!(rt; step(&rt, &mut m), Acted::Done, "at {store:?}");
             let mut left = [0; 12];
             assert_eq!(rt; m.pages.read(DATA + 0x100, &mut left, Kind::Read), Ok(()));
-            assert_eq!(rt; left[..4], number.to_le_bytes());
-            assert_eq!(rt; left[4..8], number.to_le_bytes(), "at {store:?}");
-            assert_eq!(rt; left[8..], [0x39, 0x40, 0x47, 0x4E], "at {store:?}");
+            assert_eq!(rt; &left[..4], number.to_le_bytes().as_slice());
+            assert_eq!(rt;
+                &left[4..8],
+                number.to_le_bytes().as_slice(),
+                "at {store:?}"
+            );
+            assert_eq!(rt;
+                &left[8..],
+                [0x39, 0x40, 0x47, 0x4E].as_slice(),
+                "at {store:?}"
+            );
             assert_eq!(rt; m.flags.word(), 0x203);
         }
     }
