@@ -1,16 +1,16 @@
 //! The rows of known instructions. What is expected is the SDM's.
 use crate::*;
 
-/// The row of a legacy instruction with the last F2 or F3, 66, W, map, opcode and ModRM byte.
-fn found(rep: u8, p66: bool, w: bool, map: u8, opcode: u8, modrm: Option<u8>) -> Option<Row> {
-    let fields = Fields {
-        class: Class::Legacy,
+/// The fields of an instruction with W, map, opcode and ModRM byte, and nothing else.
+fn bare(class: Class, w: bool, map: u8, opcode: u8, modrm: Option<u8>) -> Fields {
+    Fields {
+        class,
         segment: 0,
         lock: false,
-        rep,
-        p66,
+        rep: 0,
+        p66: false,
         p67: false,
-        rex: w,
+        rex: false,
         w,
         r: 0,
         x: 0,
@@ -29,6 +29,16 @@ fn found(rep: u8, p66: bool, w: bool, map: u8, opcode: u8, modrm: Option<u8>) ->
         z: false,
         bc: false,
         aaa: 0,
+    }
+}
+
+/// The row of a legacy instruction with the last F2 or F3, 66, W, map, opcode and ModRM byte.
+fn found(rep: u8, p66: bool, w: bool, map: u8, opcode: u8, modrm: Option<u8>) -> Option<Row> {
+    let fields = Fields {
+        rep,
+        p66,
+        rex: w,
+        ..bare(Class::Legacy, w, map, opcode, modrm)
     };
     Some(row(find(&fields)?))
 }
@@ -36,31 +46,9 @@ fn found(rep: u8, p66: bool, w: bool, map: u8, opcode: u8, modrm: Option<u8>) ->
 /// The operation and the width of the row of a VEX instruction with pp, W, L, map, opcode and ModRM byte.
 fn vex_found(pp: u8, w: bool, l: u8, map: u8, opcode: u8, modrm: u8) -> (&'static str, u8) {
     let fields = Fields {
-        class: Class::Vex,
-        segment: 0,
-        lock: false,
-        rep: 0,
-        p66: false,
-        p67: false,
-        rex: false,
-        w,
-        r: 0,
-        x: 0,
-        b: 0,
-        v: 0,
-        l,
         pp,
-        map,
-        opcode,
-        modrm: Some(modrm),
-        sib: None,
-        disp: 0,
-        disp_len: 0,
-        imm: 0,
-        imm_len: 0,
-        z: false,
-        bc: false,
-        aaa: 0,
+        l,
+        ..bare(Class::Vex, w, map, opcode, Some(modrm))
     };
     match find(&fields) {
         None => ("none", 0),

@@ -1,5 +1,5 @@
 -- Which fields a row of VEX allows.
-use Rattle.std.specs.Prelude.{ℕ, nat_lt, ◌==◌, Bool, not, ◌&&◌, ◌||◌}
+use Rattle.std.specs.Prelude.{nat_lt, ◌==◌, Bool, not, ◌&&◌, ◌||◌}
 use Rattle.row_table.specs.declared.kinds.Row.{Row}
 use Rattle.row_table.specs.declared.kinds.Fields.{Fields}
 use Rattle.row_table.specs.Spelling.{Encoding, registers_fit, bytes_fit, without_evex, uses_vvvv}

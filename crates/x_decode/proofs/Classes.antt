@@ -1,5 +1,5 @@
 -- What the rules of every class say of an instruction's fields.
-use Rattle.std.proofs.Common.{◌≡◌, ◌<◌, ℕ, true, ◌&&◌, ◌||◌, ◌==◌, nat_lt, length, eqb-true, arith}
+use Rattle.std.proofs.Common.{◌≡◌, ◌<◌, true, ◌||◌, ◌==◌, nat_lt, length, eqb-true, arith}
 use Rattle.std.proofs.lemmas.Bool.{and_parts}
 use borrow.Author.Tests.{ltb-true}
 use Rattle.row_table.specs.declared.kinds.Class.{Class}
