@@ -1,8 +1,6 @@
 """A program over `core_step` that takes steps of the machine that `xemu` runs, from starts that are given line by line."""
-CRATES = ("gpr_flags", "machine_state", "num_lanes", "vec_file", "guest_pages", "row_table", "form_scan", "legacy_decode",
-          "vex_decode", "x_decode", "gpr_units", "bit_units", "string_unit", "core_step")
 USES = "core_step"
-ANSWER = r"(done|de|bp|ud|gp|pf) [0-9a-f]+ [0-9a-f]+ [0-9a-f]+( @?[0-9a-f]+=[0-9a-f]+)*"
+ANSWER = r"(done|de|bp|ud|gp|pf)( [0-9a-f]+){4}( @?[0-9a-f]+=[0-9a-f]+)*"
 
 
 def text(places, start):
@@ -117,6 +115,7 @@ fn begin(m: &mut Machine, line: &Line, page: &[u8]) {
     m.pages.set_perms(line.place(1), Perms(if writable { 3 } else { 5 }));
     m.gprs = registers(line);
     m.flags = Flags::from_word(line.number(128));
+    m.vec.set_mxcsr((line.number(ENDS) >> 32) as u32);
     m.rip = line.place(2);
 }
 
@@ -156,7 +155,7 @@ fn answer(rt: &HostRuntime, m: &mut Machine, first: &[u8], line: &Line) -> io::R
     let page = data_page(first, line);
     begin(m, line, &page);
     let (how, at) = ending(run(m, line.byte(ENDS + 3)));
-    print!(rt; "{how} {at:x} {:x} {:x}", m.rip, m.flags.word())?;
+    print!(rt; "{how} {at:x} {:x} {:x} {:x}", m.rip, m.flags.word(), m.vec.mxcsr())?;
     for n in 0..16 {
         let value = m.gprs.get(n as u8);
         if value != line.number(8 * n) {

@@ -219,6 +219,20 @@ fn operations_of_vex_are_those_of_a_processor(rt: HostRuntime) -> Result<(), Fai
     Ok(())
 }
 
+#[test]
+fn moves_of_mxcsr_are_those_of_a_processor(rt: HostRuntime) -> Result<(), Fail> {
+    for (before, row, after) in processor::mxcsr_rows() {
+        let mut m = machine(&rt, rt.alloc(), row.0)?;
+        begin(&rt, &mut m, &row.1);
+        assert!(rt; *before < 0x1_0000);
+        m.vec.set_mxcsr(*before);
+        assert_eq!(rt; step(&rt, &mut m), Acted::Done, "at {:?}", row.0);
+        compare(&rt, &m, row);
+        assert_eq!(rt; m.vec.mxcsr(), *after, "MXCSR at {:?}", row.0);
+    }
+    Ok(())
+}
+
 // LDMXCSR [rbx] and STMXCSR [rbx + 4] of both classes, and with a W that doesn't count.
 #[rattlefmt::skip]
 static CONTROL: [(&[u8], &[u8]); 4] = [
