@@ -9,18 +9,19 @@ PLACES = stepping.Places(code=0x401000, data=0x402000, instruction=0x401800)
 CHECKS = 0x400800       # where a guest that checks itself goes on (see guest.py)
 RAX, RCX, RDX, RSP, RBP, RSI, RDI = 0, 1, 2, 4, 5, 6, 7
 CF, PF, AF, ZF, SF, DF, OF = 1, 4, 16, 64, 128, 0x400, 0x800
-ESCAPES = {0: b"", 1: b"\x0f", 2: b"\x0f\x38", 3: b"\x0f\x3a"}
 
 # A system call's answer is the kernel's, and RDTSC's number is the program's own (docs/DECISIONS.md).
 LEFT_OUT = ("Syscall", "Rdtsc")
 
 # What a processor needs to have, in Linux's words, for the rows of a level above the first.
-FEATURES = {"Movbe": "movbe", "Tzcnt": "bmi1", "Lzcnt": "abm", "Adcx": "adx", "Adox": "adx"}
+FEATURES = {"Movbe": "movbe", "Tzcnt": "bmi1", "Lzcnt": "abm", "Adcx": "adx", "Adox": "adx",
+            **dict.fromkeys(("Andn", "Bextr", "Blsi", "Blsmsk", "Blsr"), "bmi1"),
+            **dict.fromkeys(("Bzhi", "Mulx", "Pdep", "Pext", "Rorx", "Sarx", "Shlx", "Shrx"), "bmi2")}
 
 # How many bytes an immediate has: z and v are those of the operand size, a those of an address.
 IMMEDIATES = {"AlIb": "1", "RaxIz": "z", "Iz": "z", "GvEvIz": "z", "Ib": "1", "GvEvIb": "1", "Jb": "1", "EbIb": "1", "EvIz": "z",
               "EvIb": "1", "AlOb": "a", "RaxOv": "a", "ObAl": "a", "OvRax": "a", "OpcodeRegIb": "1", "OpcodeRegIv": "v",
-              "Iw": "2", "Jz": "4", "EvGvIb": "1"}
+              "Iw": "2", "Jz": "4", "EvGvIb": "1", "GyEyIb": "1"}
 WITHOUT_MODRM = ("AlIb RaxIz OpcodeReg Iz Ib Jb RaxOpcodeReg Implied AlOb RaxOv ObAl OvRax OpcodeRegIb OpcodeRegIv Iw "
                  "Jz").split()
 
@@ -39,7 +40,11 @@ UNDEFINED = {
     "Bt": OF | SF | AF | PF, "Bts": OF | SF | AF | PF, "Btr": OF | SF | AF | PF, "Btc": OF | SF | AF | PF,
     "Bsf": CF | OF | SF | AF | PF, "Bsr": CF | OF | SF | AF | PF,
     "Tzcnt": OF | SF | AF | PF, "Lzcnt": OF | SF | AF | PF,
+    "Andn": AF | PF, "Blsr": AF | PF, "Blsmsk": AF | PF, "Blsi": AF | PF, "Bzhi": AF | PF, "Bextr": SF | AF | PF,
 }
+
+# Prefixes that change no operation, and how often each is drawn.
+OTHER_PREFIXES = ((0x67, .12), (0x64, .05), (0x65, .05), (0x2E, .02), (0x3E, .02), (0x26, .01), (0x36, .01))
 
 
 def jump_to_checks(at):
@@ -51,20 +56,19 @@ def jump_to_checks(at):
 class Draw:
     """A drawn instruction: its row, its parts, and where it begins. A jump to a guest's checks stands behind it."""
     row: listing.Row
-    front: bytes
-    modrm: int
+    head: listing.Head
     immediate: int
     length: int
     start: stepping.Start
 
     @property
-    def wide(self):
-        return listing.wide(self.front)
+    def front(self):
+        return self.head.front
 
     @property
     def size(self):
         """The operand size in bits, by the row or by the prefixes."""
-        return self.row.width or (64 if self.wide else 16 if 0x66 in self.front else 32)
+        return self.row.width or (64 if self.head.w else 16 if 0x66 in self.front else 32)
 
     @property
     def repeats(self):
@@ -115,8 +119,7 @@ def number(pick):
 
 def prefixes(pick, row):
     """Legacy prefixes in some order, then perhaps REX; now and then REX stands before them, where it doesn't count."""
-    legacy = [byte for byte, part in ((0x66, .25), (0x67, .12), (0x64, .05), (0x65, .05), (0x2E, .02), (0x3E, .02),
-                                      (0x26, .01), (0x36, .01)) if pick.random() < part]
+    legacy = [byte for byte, part in ((0x66, .25), *OTHER_PREFIXES) if pick.random() < part]
     if row.op in STRINGS:
         legacy += pick.choice([[], [0xF2], [0xF3], [0xF3]])
     elif pick.random() < .03:
@@ -136,37 +139,62 @@ def prefixes(pick, row):
     return bytes(legacy + [rex] * has_rex)
 
 
-def immediate_size(operands, front):
+def prefixes_before_vex(pick):
+    """Legacy prefixes in some order; now and then one of those with which VEX is undefined, or REX."""
+    legacy = [byte for byte, part in OTHER_PREFIXES if pick.random() < part]
+    if pick.random() < .03:
+        legacy.append(pick.choice([0x66, 0xF2, 0xF3, 0xF0, 0x40 | pick.getrandbits(4)]))
+    pick.shuffle(legacy)
+    return bytes(legacy)
+
+
+def vex(pick, row):
+    """VEX as a row has it, mostly of two bytes where these suffice; now and then with a length that the row doesn't take, or with a
+    register in a vvvv that isn't used, which are undefined."""
+    length = pick.choice([n for n in range(2) if row.lengths >> n & 1]) ^ (pick.random() < .02)
+    has_vvvv = listing.names_vvvv(row) or pick.random() < .03
+    inverted = ~(pick.getrandbits(4) if has_vvvv else 0) & 15
+    w = pick.getrandbits(1) if row.w == "-" else int(row.w)
+    high = pick.getrandbits(3) | pick.choice([0, 3])
+    low = inverted << 3 | length << 2 | listing.MARKS.index(row.mark)
+    if row.map == 1 and high & 3 == 3 and w == 0 and pick.random() < .8:
+        return bytes([0xC5, high >> 2 << 7 | low])
+    return bytes([0xC4, high << 5 | row.map, w << 7 | low])
+
+
+def drawn_modrm(pick, row):
+    modrm = pick.getrandbits(8) | (0xC0 if pick.random() < .4 else 0)
+    if row.digit != "-":
+        modrm = modrm & 0xC7 | int(row.digit) << 3
+    if row.operands in listing.MEMORY_ONLY:
+        return modrm & 0x3F | pick.choice([0, 0x40, 0x80])
+    return modrm | (0xC0 if row.operands in listing.REGISTER_ONLY else 0)
+
+
+def immediate_size(operands, head):
     kind = IMMEDIATES.get(operands, "0")
-    narrow = 0x66 in front and not listing.wide(front)
-    sizes = {"z": 2 if narrow else 4, "v": 8 if listing.wide(front) else 2 if narrow else 4, "a": 4 if 0x67 in front else 8}
+    narrow = 0x66 in head.front and not head.w
+    sizes = {"z": 2 if narrow else 4, "v": 8 if head.w else 2 if narrow else 4, "a": 4 if 0x67 in head.front else 8}
     return sizes[kind] if kind in sizes else int(kind)
 
 
 class Drawing:
-    """One draw in the making: the prefixes, the row and what stands in registers."""
+    """One draw in the making: its first bytes with the opcode, its row and what stands in registers."""
 
-    def __init__(self, pick, table):
+    def __init__(self, pick, table, row):
         self.pick = pick
-        row = pick.choice(table)
-        self.front = prefixes(pick, row)
-        self.modrm = pick.getrandbits(8) | (0xC0 if pick.random() < .4 else 0)
-        if row.digit != "-":
-            self.modrm = self.modrm & 0xC7 | int(row.digit) << 3
-        if row.operands in listing.MEMORY_ONLY:
-            self.modrm &= 0x3F | pick.choice([0, 0x40, 0x80])
-        elif row.operands in listing.REGISTER_ONLY:
-            self.modrm |= 0xC0
-        self.row = listing.matched(table, self.front, row.map, row.opcode, self.modrm)
+        if row.kind == "vex":
+            lead = prefixes_before_vex(pick) + vex(pick, row)
+        else:
+            lead = prefixes(pick, row) + listing.ESCAPES[row.map]
+        self.lead = lead + bytes([row.opcode])
+        self.modrm = drawn_modrm(pick, row)
+        self.head = listing.read(self.lead + bytes([self.modrm]))
+        self.row = listing.matched(table, self.head) or (row if row.kind == "vex" else None)
         self.registers = [number(pick) for _ in range(16)]
         self.put_at, self.put = 0, b""
         self.tail = b""
         self.immediate = 0
-
-    @property
-    def rex(self):
-        last = self.front[-1:]
-        return last[0] if last and 0x40 <= last[0] <= 0x4F else 0
 
     @property
     def has_modrm(self):
@@ -191,14 +219,16 @@ class Drawing:
 
     def narrow(self, value):
         """An address as it counts: with 67 its low 32 bits, and any above them."""
-        if 0x67 in self.front:
+        if 0x67 in self.head.front:
             return value % 2**32 | self.pick.getrandbits(32) << 32
         return value % 2**64
 
     def build(self):
         """Displacement and immediate; where memory is named, its address is mostly one on the data page."""
-        size = immediate_size(self.row.operands, self.front)
+        size = immediate_size(self.row.operands, self.head)
         at = self.target()
+        if self.row.op in ("Bextr", "Bzhi") and self.pick.random() < .7:
+            self.registers[self.head.v] = self.pick.randrange(80) | self.pick.randrange(80) << 8
         body = self.place(at, size) if self.has_modrm else b""
         self.immediate = self.drawn_immediate(size, at)
         self.tail = body + self.immediate.to_bytes(size, "little")
@@ -230,23 +260,23 @@ class Drawing:
         if low == 4:
             return self.place_with_sib(at, mode)
         if mode == 0 and low == 5:
-            end = (PLACES.instruction + len(self.front) + len(ESCAPES[self.row.map]) + 2 + 4 + size)
+            end = PLACES.instruction + len(self.lead) + 1 + 4 + size
             return bytes([self.modrm]) + ((at - end) % 2**32).to_bytes(4, "little")
         encoded, offset = self.displacement(mode)
         if self.pick.random() < .95:
-            self.registers[low | (self.rex & 1) << 3] = self.narrow(at - offset)
+            self.registers[low | self.head.b << 3] = self.narrow(at - offset)
         return bytes([self.modrm]) + encoded
 
     def place_with_sib(self, at, mode):
         sib = self.pick.getrandbits(8)
-        index, base = sib >> 3 & 7 | (self.rex & 2) << 2, sib & 7
+        index, base = sib >> 3 & 7 | self.head.x << 3, sib & 7
         if index != RSP and self.pick.random() < .6:
             self.registers[index] = self.pick.randrange(-64, 64) % 2**64
         scaled = (self.registers[index] if index != RSP else 0) << (sib >> 6)
         if base == 5 and mode == 0:
             return bytes([self.modrm, sib]) + ((at - scaled) % 2**32).to_bytes(4, "little")
         encoded, offset = self.displacement(mode)
-        register = base | (self.rex & 1) << 3
+        register = base | self.head.b << 3
         if register != index and self.pick.random() < .95:
             self.registers[register] = self.narrow(at - offset - scaled)
         return bytes([self.modrm, sib]) + encoded
@@ -270,6 +300,9 @@ class Drawing:
             self.prepare_equal()
         if op in ("Jmp", "Call") and self.row.operands == "Ev":
             self.prepare_jump()
+        if op == "Ldmxcsr":
+            reserved = 1 << pick.randrange(16, 32) if pick.random() < .2 else 0
+            self.put = (pick.getrandbits(16) | reserved).to_bytes(4, "little")
 
     def named(self, register):
         """Whether an address that was chosen counts from this register."""
@@ -289,21 +322,21 @@ class Drawing:
     def prepare_string(self):
         self.registers[RSI] = self.narrow(self.target())
         self.registers[RDI] = self.narrow(self.target())
-        if 0xF2 in self.front or 0xF3 in self.front:
+        if 0xF2 in self.head.front or 0xF3 in self.head.front:
             self.registers[RCX] = self.narrow(self.pick.randrange(6))
         if self.pick.random() < .5:
             self.put_at, self.put = self.registers[RDI] % 2**32, self.bytes()
 
     def prepare_bit(self):
         """The bit's number, which reaches a few operands down or up."""
-        register = self.modrm >> 3 & 7 | (self.rex & 4) << 1
+        register = self.modrm >> 3 & 7 | self.head.r << 3
         if register != self.modrm & 7 and self.modrm & 7 != 4 and self.pick.random() < .8:
             self.registers[register] = self.pick.randrange(-512, 512) % 2**64
 
     def prepare_equal(self):
         """The number that is compared is the one that is there."""
         if not self.in_memory:
-            self.registers[RAX] = self.registers[self.modrm & 7 | (self.rex & 1) << 3]
+            self.registers[RAX] = self.registers[self.modrm & 7 | self.head.b << 3]
         elif not self.named(RAX) and not self.named(RDX):
             half = 8 if self.row.width == 128 else 4 if self.row.op == "Cmpxchg8b" else 8
             self.registers[RAX] = int.from_bytes(self.put[:half], "little")
@@ -313,14 +346,15 @@ class Drawing:
         if self.in_memory:
             self.put = self.code_target().to_bytes(8, "little")
         else:
-            self.registers[self.modrm & 7 | (self.rex & 1) << 3] = self.code_target()
+            self.registers[self.modrm & 7 | self.head.b << 3] = self.code_target()
 
     def finish(self, writable, steps):
-        code = self.front + ESCAPES[self.row.map] + bytes([self.row.opcode]) + self.tail
+        code = self.lead + self.tail
         jump = jump_to_checks(PLACES.instruction + len(code))
         flags = self.pick.getrandbits(12) & stepping.FLAGS
-        start = stepping.Start(code + jump, self.registers, flags, self.put_at, self.put, writable, steps)
-        return Draw(self.row, self.front, self.modrm, self.immediate, len(code), start)
+        mxcsr = stepping.MXCSR if self.pick.random() < .3 else self.pick.getrandbits(16)
+        start = stepping.Start(code + jump, self.registers, flags, self.put_at, self.put, writable, steps, mxcsr)
+        return Draw(self.row, self.head, self.immediate, len(code), start)
 
 
 def processor_features():
@@ -328,16 +362,24 @@ def processor_features():
     return set(next(line for line in text.splitlines() if line.startswith("flags")).split())
 
 
-def drawn(pick, count, only=""):
-    """So many draws, of one operation alone where it is named. What matches no row, or is longer than 15 bytes, is drawn
-    again."""
+def is_drawn(row, have):
+    """Whether a row can be compared on a processor with these features."""
+    if row.part not in ("Core", "Gpr", "Bit", "String") or row.op in LEFT_OUT:
+        return False
+    return FEATURES.get(row.op, "avx" if row.kind == "vex" else "cpuid") in have
+
+
+def drawn(pick, count, only="", kind=""):
+    """So many draws, of one operation alone or of one class where it is named; none where this processor has no such row. What
+    matches no row, or is longer than 15 bytes, is drawn again."""
     have = processor_features()
     table = listing.rows()
+    choices = [row for row in table if kind in ("", row.kind) and only in ("", row.op) and is_drawn(row, have)]
     draws = []
-    while len(draws) < count:
-        drawing = Drawing(pick, table)
+    while choices and len(draws) < count:
+        drawing = Drawing(pick, table, pick.choice(choices))
         row = drawing.row
-        if row is None or only not in ("", row.op) or row.op in LEFT_OUT or FEATURES.get(row.op, "cpuid") not in have:
+        if row is None or only not in ("", row.op) or not is_drawn(row, have):
             continue
         drawing.build()
         drawing.prepare()

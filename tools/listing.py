@@ -1,46 +1,71 @@
-"""The rows of tools/rows.txt, and which of them some fields match."""
+"""The rows of tools/rows.txt, what the bytes of an instruction say, and which of the rows that matches."""
 import collections
 import pathlib
+import re
 
 LISTING = pathlib.Path(__file__).resolve().parent / "rows.txt"
+ESCAPES = {0: b"", 1: b"\x0f", 2: b"\x0f\x38", 3: b"\x0f\x3a"}
+MARKS = ("NP", "66", "F3", "F2")        # by the number in the field pp
 
 # The operations that LOCK may stand before (Intel SDM volume 2, "LOCK"), and the operands whose first is ModRM.r/m.
 LOCKS = "Xchg Xadd Cmpxchg Cmpxchg8b Add Or Adc Sbb And Sub Xor Not Neg Inc Dec Bts Btr Btc".split()
 TO_MEMORY = "Eb Ev EbGb EvGv EbIb EvIb EvIz M".split()
 
 # The operands that need memory in ModRM.r/m, or a register.
-MEMORY_ONLY = "M GvM MvGv".split()
-REGISTER_ONLY = "R".split()
+MEMORY_ONLY = "M GvM MvGv VxMx MxVx VxHxMx MxHxVx VxVm VxVmHx VmVx MxKx".split()
+REGISTER_ONLY = "R HxUxIb UxIb VxHxUx UxHxVx VxRv GvUx GvUxIb KxUx VxKx KxKx KxKxKx KxKxIb KxRv GvKx".split()
 
-Row = collections.namedtuple("Row", "map mark opcode digit w operands width op level")
+Row = collections.namedtuple("Row", "kind map mark opcode digit w lengths operands width part op level")
+
+# What stands before an instruction's operands. `kind`: legacy, vex or evex; `front`: the legacy prefixes and REX; `mark`: the
+# mandatory prefix; `length`: 1 for 128 bits (and for legacy), 2 for 256; `r`, `x` and `b`: 1 where they make a register's number
+# higher; `v`: the register in vvvv; `modrm`: the byte behind the opcode, 0 where there is none. Of EVEX, which has no rows yet,
+# only the map and the opcode are read.
+Head = collections.namedtuple("Head", "kind front map mark w length r x b v opcode modrm")
 
 
 def rows():
-    """The legacy rows, one for each opcode."""
+    """The rows, one for each opcode."""
     found = []
     for line in LISTING.read_text().splitlines():
         words = line.split("#")[0].split()
-        if not words or words[0] != "legacy":
+        if not words:
             continue
         more = dict(word.split("=") for word in words[10:])
         first, _, last = words[3].partition("..")
+        part, op = words[9].split(".")
         for opcode in range(int(first, 16), int(last or first, 16) + 1):
-            found.append(Row(int(words[1]), words[2], opcode, words[4], words[5], words[7], int(words[8]),
-                             words[9].split(".")[1], more.get("level", "")))
+            found.append(Row(words[0], int(words[1]), words[2], opcode, words[4], words[5], int(words[6]), words[7],
+                             int(words[8]), part, op, more.get("level", "")))
     return found
 
 
-def parts(code):
-    """The prefixes of some bytes, the map, the opcode and the byte behind it (0 where there is none)."""
+def read(code):
+    """What some bytes say before the operands of an instruction."""
     at = 0
     while code[at] in b"\xf0\xf2\xf3\x2e\x36\x3e\x26\x64\x65\x66\x67" or 0x40 <= code[at] <= 0x4F:
         at += 1
-    front, map_ = code[:at], 0
-    if code[at] == 0x0F:
-        at, map_ = at + 1, 1
-        if code[at] in (0x38, 0x3A):
-            at, map_ = at + 1, 2 if code[at] == 0x38 else 3
-    return front, map_, code[at], (code + b"\0")[at + 1]
+    front, rest = code[:at], code[at:] + bytes(6)
+    if rest[0] == 0xC5:
+        return vex_head(front, rest[1] & 0x80 | 0x61, rest[1] & 0x7F, rest[2:])
+    if rest[0] == 0xC4:
+        return vex_head(front, rest[1], rest[2], rest[3:])
+    if rest[0] == 0x62:
+        return Head("evex", front, rest[1] & 7, "", False, 0, 0, 0, 0, 0, rest[4], rest[5])
+    return legacy_head(front, rest)
+
+
+def legacy_head(front, rest):
+    map_ = {0x38: 2, 0x3A: 3}.get(rest[1], 1) if rest[0] == 0x0F else 0
+    opcode, modrm = rest[len(ESCAPES[map_]):][:2]
+    rex = front[-1] if has_rex(front) else 0
+    return Head("legacy", front, map_, mark(front), bool(rex & 8), 1, rex >> 2 & 1, rex >> 1 & 1, rex & 1, 0, opcode, modrm)
+
+
+def vex_head(front, high, more, rest):
+    """The same by the fields of VEX: R', X', B' and the map, then W, vvvv', L and pp."""
+    return Head("vex", front, high & 0x1F, MARKS[more & 3], bool(more & 0x80), 1 << (more >> 2 & 1), ~high >> 7 & 1,
+                ~high >> 6 & 1, ~high >> 5 & 1, ~more >> 3 & 15, rest[0], rest[1])
 
 
 def mark(front):
@@ -51,9 +76,19 @@ def mark(front):
     return "66" if 0x66 in front else "NP"
 
 
-def wide(front):
-    """REX.W: a REX byte counts where it is the last before the opcode."""
-    return bool(front) and 0x48 <= front[-1] <= 0x4F
+def has_rex(front):
+    """Whether there is a REX byte that counts: the last one before the opcode."""
+    return bool(front) and 0x40 <= front[-1] <= 0x4F
+
+
+def may_precede_vex(front):
+    """Whether VEX may stand behind these prefixes: none of 66, F2, F3, LOCK and REX (Intel SDM volume 2, 2.3.2 to 2.3.4)."""
+    return not any(byte in front for byte in b"\x66\xf2\xf3\xf0") and not has_rex(front)
+
+
+def names_vvvv(row):
+    """Whether a row has an operand in vvvv. Where it has none, vvvv has to be 1111."""
+    return bool(re.search("By|Hx|KxKxKx", row.operands))
 
 
 def takes(row, modrm):
@@ -61,9 +96,14 @@ def takes(row, modrm):
     return row.operands not in (REGISTER_ONLY if modrm < 0xC0 else MEMORY_ONLY)
 
 
-def matched(table, front, map_, opcode, modrm):
-    """The row that these prefixes, this opcode and the byte behind it match, or None: the marked one before the other."""
-    fit = [row for row in table if (row.map, row.opcode) == (map_, opcode) and row.digit in ("-", str(modrm // 8 % 8))
-           and row.w in ("-", str(int(wide(front)))) and takes(row, modrm)]
-    marked = [row for row in fit if row.mark == mark(front)]
+def fitting(table, head):
+    """The rows of the class, map and opcode that are there."""
+    return [row for row in table if (row.kind, row.map, row.opcode) == (head.kind, head.map, head.opcode)]
+
+
+def matched(table, head):
+    """The row that these fields match, or None: the marked one before the other."""
+    fit = [row for row in fitting(table, head) if row.digit in ("-", str(head.modrm // 8 % 8))
+           and row.w in ("-", str(int(head.w))) and row.lengths & head.length and takes(row, head.modrm)]
+    marked = [row for row in fit if row.mark == head.mark]
     return next(iter(marked or [row for row in fit if row.mark == "-"]), None)

@@ -1,8 +1,6 @@
 """A program over `core_step` that takes steps of the machine that `xemu` runs, from starts that are given line by line."""
-CRATES = ("gpr_flags", "machine_state", "guest_pages", "row_table", "form_scan", "legacy_decode", "vex_decode", "x_decode",
-          "gpr_units", "bit_units", "string_unit", "core_step")
 USES = "core_step"
-ANSWER = r"(done|de|bp|ud|gp|pf) [0-9a-f]+ [0-9a-f]+ [0-9a-f]+( @?[0-9a-f]+=[0-9a-f]+)*"
+ANSWER = r"(done|de|bp|ud|gp|pf)( [0-9a-f]+){4}( @?[0-9a-f]+=[0-9a-f]+)*"
 
 
 def text(places, start):
@@ -14,7 +12,7 @@ MAIN = """\
 //! Reads starts, one a line, takes a step of the machine from each, and prints where it got to.
 #![tactic(auto)]
 
-use core_step::{Acted, Fault, Fetched, Flags, Gprs, Kind, Machine, Pages, Perms};
+use core_step::{Acted, Fault, Fetched, Flags, Gprs, Kind, Machine, Pages, Perms, VecFile};
 use std::io;
 
 /// A line's numbers are in hexadecimal, and its numbers of several bytes in a record have the lowest first.
@@ -99,6 +97,7 @@ fn machine(rt: &HostRuntime, line: &Line) -> Result<Machine, io::Error> {
         gprs: Gprs::new(),
         flags: Flags::none(),
         rip: 0,
+        vec: VecFile::new(),
         pages,
         fs: 0,
         gs: 0,
@@ -116,6 +115,7 @@ fn begin(m: &mut Machine, line: &Line, page: &[u8]) {
     m.pages.set_perms(line.place(1), Perms(if writable { 3 } else { 5 }));
     m.gprs = registers(line);
     m.flags = Flags::from_word(line.number(128));
+    m.vec.set_mxcsr((line.number(ENDS) >> 32) as u32);
     m.rip = line.place(2);
 }
 
@@ -155,7 +155,7 @@ fn answer(rt: &HostRuntime, m: &mut Machine, first: &[u8], line: &Line) -> io::R
     let page = data_page(first, line);
     begin(m, line, &page);
     let (how, at) = ending(run(m, line.byte(ENDS + 3)));
-    print!(rt; "{how} {at:x} {:x} {:x}", m.rip, m.flags.word())?;
+    print!(rt; "{how} {at:x} {:x} {:x} {:x}", m.rip, m.flags.word(), m.vec.mxcsr())?;
     for n in 0..16 {
         let value = m.gprs.get(n as u8);
         if value != line.number(8 * n) {

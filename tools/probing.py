@@ -10,15 +10,26 @@ import sys
 SECONDS = "600"
 
 
-def build(root, folder, crates, name, uses, main):
-    """A repository with these crates and the program NAME, whose text is `main`. Returns the program's folder."""
-    for crate in crates:
+def listed_crates(root, crate):
+    """The lines of crates.txt for a crate and all that it stands on, lowest first."""
+    lines = [line for line in (root / "crates.txt").read_text().splitlines() if line and line[0] != "#"]
+    uses = {line.split(":")[0]: line.split(":")[1].split() for line in lines}
+    wanted, more = set(), {crate}
+    while more:
+        wanted |= more
+        more = {below for name in more for below in uses[name] if below in uses} - wanted
+    return [line for line in lines if line.split(":")[0] in wanted]
+
+
+def build(root, folder, name, uses, main):
+    """A repository with the program NAME, whose text is `main`, over the crate that it uses. Returns the program's folder."""
+    lines = listed_crates(root, uses)
+    for crate in [line.split(":")[0] for line in lines]:
         shutil.copytree(root / "crates" / crate, folder / "crates" / crate,
                         ignore=shutil.ignore_patterns("out", "must-fail", "tests", "tests.rt"))
         library = folder / "crates" / crate / "src" / "lib.rt"
         library.write_text(library.read_text().replace("#[cfg(test)]\nmod tests;\n", ""))
-    wanted = [line for line in (root / "crates.txt").read_text().splitlines() if line.split(":")[0] in crates]
-    (folder / "crates.txt").write_text("\n".join(wanted + [f"{name}: {uses}"]) + "\n")
+    (folder / "crates.txt").write_text("\n".join(lines + [f"{name}: {uses}"]) + "\n")
     (folder / "HANDLES").write_text((root / "HANDLES").read_text())
     program = folder / "crates" / name
     (program / "src").mkdir(parents=True)

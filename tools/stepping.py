@@ -1,7 +1,7 @@
 """Takes instructions on this machine's processor, by single steps of a traced process (ptrace).
 
 A start is where an instruction begins: registers, flags, its bytes, and a few bytes that are put into memory. An end is
-where it got to: how it ended, registers, flags, the instruction pointer and the bytes that changed.
+where it got to: how it ended, registers, flags, MXCSR, the instruction pointer and the bytes that changed.
 
 Memory is two pages, one of code (read and execute) and one of data. In one world the page of data is writable (read and
 write), in the other it isn't (read and execute, too). FS and GS have base 0, as in a program that sets none.
@@ -13,7 +13,7 @@ import subprocess
 PAGE = 4096
 FLAGS = 0xCD5       # CF, PF, AF, ZF, SF, DF and OF: the flags that instructions change
 ALWAYS = 0x202      # the two bits that always read as 1 in a program
-RECORD = 188        # the bytes of a start, as the programs read it
+MXCSR = 0x1F80      # its value in a program that sets none
 
 
 @dataclasses.dataclass
@@ -26,10 +26,11 @@ class Start:
     put: bytes = b""
     writable: bool = True
     steps: int = 1
+    mxcsr: int = MXCSR
 
     def record(self):
-        return struct.pack("<16QQQ16s24sBBBB", *self.registers, self.flags, self.put_at, self.put, self.code,
-                           len(self.put), len(self.code), self.writable, self.steps)
+        return struct.pack("<16QQQ16s24sBBBBI", *self.registers, self.flags, self.put_at, self.put, self.code,
+                           len(self.put), len(self.code), self.writable, self.steps, self.mxcsr)
 
 
 @dataclasses.dataclass
@@ -40,14 +41,15 @@ class End:
     at: int
     rip: int
     flags: int
+    mxcsr: int
     registers: dict
     memory: dict
 
     @staticmethod
     def read(line):
-        """An end from a line that a program prints: how, at, rip and flags, then NUMBER=VALUE of each register that changed,
-        and @ADDRESS=BYTE of each byte, all in hexadecimal."""
-        how, at, rip, flags, *changes = line.split()
+        """An end from a line that a program prints: how, at, rip, flags and MXCSR, then NUMBER=VALUE of each register that
+        changed, and @ADDRESS=BYTE of each byte, all in hexadecimal."""
+        how, at, rip, flags, mxcsr, *changes = line.split()
         registers, memory = {}, {}
         for change in changes:
             place, value = change.split("=")
@@ -55,7 +57,7 @@ class End:
                 memory[int(place[1:], 16)] = int(value, 16)
             else:
                 registers[int(place, 16)] = int(value, 16)
-        return End(how, int(at, 16), int(rip, 16), int(flags, 16), registers, memory)
+        return End(how, int(at, 16), int(rip, 16), int(flags, 16), int(mxcsr, 16), registers, memory)
 
 
 @dataclasses.dataclass
@@ -107,6 +109,7 @@ enum { PAGE = 4096, FLAGS = 0xCD5, ALWAYS = 0x202 };
 struct start {
     uint64_t registers[16], flags, put_at;
     uint8_t put[16], code[24], put_len, code_len, writable, steps;
+    uint32_t mxcsr;
 };
 
 static uint64_t code_page, data_page, instruction;
@@ -176,6 +179,10 @@ static void begin(pid_t child, const struct start *s, const uint8_t *page, uint8
     r->orig_rax = -1;
     r->fs_base = r->gs_base = 0;
     if (ptrace(PTRACE_SETREGS, child, 0, r)) fail("registers");
+    struct user_fpregs_struct vectors;
+    if (ptrace(PTRACE_GETFPREGS, child, 0, &vectors)) fail("MXCSR");
+    vectors.mxcsr = s->mxcsr;
+    if (ptrace(PTRACE_SETFPREGS, child, 0, &vectors)) fail("MXCSR");
 }
 
 /* How a step ended. */
@@ -198,6 +205,7 @@ static const char *ending(pid_t child, int status, uint64_t *at) {
 
 static void answer(pid_t child, const struct start *s, uint8_t *held) {
     struct user_regs_struct r;
+    struct user_fpregs_struct vectors;
     uint8_t page[PAGE];
     uint64_t at;
     const char *how;
@@ -213,7 +221,8 @@ static void answer(pid_t child, const struct start *s, uint8_t *held) {
         steps++;
     } while (steps < s->steps && !strcmp(how, "done") && r.rip == instruction);
     peek_page(child, data_page, held);
-    printf("%s %llx %llx %llx", how, (unsigned long long)at, r.rip, (r.eflags & FLAGS) | ALWAYS);
+    if (ptrace(PTRACE_GETFPREGS, child, 0, &vectors)) fail("MXCSR");
+    printf("%s %llx %llx %llx %x", how, (unsigned long long)at, r.rip, (r.eflags & FLAGS) | ALWAYS, vectors.mxcsr);
     for (int n = 0; n < 16; n++)
         if (*slot(&r, n) != s->registers[n]) printf(" %x=%llx", n, *slot(&r, n));
     for (int k = 0; k < PAGE; k++)
@@ -230,7 +239,7 @@ int main(int count, char **words) {
     pid_t worlds[2] = {world(5, 5), world(5, 3)};
     static uint8_t held[2][PAGE];
     struct start s;
-    while (fread(&s, 1, 188, stdin) == 188) answer(worlds[s.writable != 0], &s, held[s.writable != 0]);
+    while (fread(&s, sizeof s, 1, stdin) == 1) answer(worlds[s.writable != 0], &s, held[s.writable != 0]);
     kill(worlds[0], SIGKILL);
     kill(worlds[1], SIGKILL);
     return 0;

@@ -8,7 +8,7 @@ use Rattle.machine_state.specs.declared.kinds.Kind.{Kind}
 use Rattle.machine_state.specs.declared.kinds.Kind.TheVariants.{Execute}
 use Rattle.machine_state.specs.declared.kinds.Miss.{Miss}
 use Rattle.machine_state.specs.declared.kinds.Miss.TheVariants.{Unmapped, Denied, NonCanonical, Away}
-use Rattle.machine_state.specs.Memory.{Memory, Permissions, Swap, miss_at, or_else, first_miss, bytes_at, allowed_run}
+use Rattle.machine_state.specs.Memory.{page_size, Memory, Permissions, Swap, miss_at, or_else, first_miss, bytes_at, allowed_run}
 use Rattle.machine_state.specs.State.{State}
 use Rattle.machine_state.proofs.MemoryLemmas.{or_else_right, or_else_none, first_miss-append, first_miss-zero, first_miss_at_once, first_miss_never_away, length-bytes_at}
 use Rattle.guest_pages.specs.Table.{Table, blocked, first_away, away_at, perms_in}
@@ -32,10 +32,10 @@ some-none option x none some = cc
 
 -- what keeps one byte from being had
 blocked-one : (table : Table) (kind : Kind) (addr : ℕ)
-    → blocked table kind addr 1 ≡ or_else (miss_at (perms_in table) kind addr) (away_at (table (addr / 4096)))
+    → blocked table kind addr 1 ≡ or_else (miss_at (perms_in table) kind addr) (away_at (table (addr / page_size)))
 unfolding first_miss first_away
 blocked-one table kind addr =
-    rw (or_else_right (miss_at (perms_in table) kind addr), or_else_right (away_at (table (addr / 4096)))) refl
+    rw (or_else_right (miss_at (perms_in table) kind addr), or_else_right (away_at (table (addr / page_size)))) refl
 
 -- an access of no bytes can be made
 blocked-zero : (table : Table) (kind : Kind) (addr : ℕ) → blocked table kind addr 0 ≡ None
@@ -58,7 +58,7 @@ or_else-first (Some here) other miss apart e = e
 
 -- a byte on an away page is allowed
 blocked-away : (table : Table) (kind : Kind) (addr slot : ℕ) → blocked table kind addr 1 ≡ Some (Away slot)
-    → (miss_at (perms_in table) kind addr ≡ None) × (away_at (table (addr / 4096)) ≡ Some (Away slot))
+    → (miss_at (perms_in table) kind addr ≡ None) × (away_at (table (addr / page_size)) ≡ Some (Away slot))
 blocked-away table kind addr slot e =
     or_else-second _ _ _ (miss_at-never_away (perms_in table) kind addr slot) (sym (blocked-one table kind addr) ∙ e)
 
@@ -66,16 +66,16 @@ blocked-away table kind addr slot e =
 blocked-missed : (table : Table) (kind : Kind) (addr : ℕ) (miss : Miss) → IsDenial miss
     → blocked table kind addr 1 ≡ Some miss → miss_at (perms_in table) kind addr ≡ Some miss
 blocked-missed table kind addr miss there e =
-    or_else-first _ _ _ (λ away. let slot = away_at-away (table (addr / 4096)) miss away in there slot.0 slot.1) (sym (blocked-one table kind addr) ∙ e)
+    or_else-first _ _ _ (λ away. let slot = away_at-away (table (addr / page_size)) miss away in there slot.0 slot.1) (sym (blocked-one table kind addr) ∙ e)
 
 -- so many bytes can be fetched, and those behind them, which lie on one page, can't
 pub run-stopped : (table : Table) (addr most count len : ℕ) (miss : Miss) → count < most → blocked table Execute addr count ≡ None
-    → 0 < len → (addr + count) % 4096 + len ≤ 4096 → blocked table Execute (addr + count) len ≡ Some miss → IsRun table addr most count (Some miss)
+    → 0 < len → (addr + count) % page_size + len ≤ page_size → blocked table Execute (addr + count) len ≡ Some miss → IsRun table addr most count (Some miss)
 run-stopped table addr most count len miss fewer ready some within stop =
     record { ready = ready; end = (fewer, blocked_first table Execute (addr + count) len some within ∙ stop) }
 
 -- the same, where they are the first of all
-pub run-missed : (table : Table) (addr most len : ℕ) (miss : Miss) → 0 < most → 0 < len → addr % 4096 + len ≤ 4096
+pub run-missed : (table : Table) (addr most len : ℕ) (miss : Miss) → 0 < most → 0 < len → addr % page_size + len ≤ page_size
     → blocked table Execute addr len ≡ Some miss → IsRun table addr most 0 (Some miss)
 run-missed table addr most len miss fewer some within stop =
     let place : addr + 0 ≡ addr = add-zero addr in
@@ -285,7 +285,7 @@ outcome-needs : (table : Table) (byte : ℕ → ℕ) (addr count slot : ℕ) (st
 outcome-needs table byte addr count slot stop bytes what run shown is = (
   λ e.
       let end : (count < 15) × (blocked table Execute (addr + count) 1 ≡ Some (Away slot)) = run-away table addr count slot stop (outcome-away what stop slot e).1 run in
-      let page : (miss_at (perms_in table) Execute (addr + count) ≡ None) × (away_at (table ((addr + count) / 4096)) ≡ Some (Away slot)) =
+      let page : (miss_at (perms_in table) Execute (addr + count) ≡ None) × (away_at (table ((addr + count) / page_size)) ≡ Some (Away slot)) =
       blocked-away table Execute (addr + count) slot end.1 in
       record {
         count = count;

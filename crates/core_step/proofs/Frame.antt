@@ -15,15 +15,15 @@ use Rattle.row_table.specs.declared.operations.StringOp.{StringOp}
 use Rattle.row_table.specs.declared.operations.StringOp.TheVariants.{Movs, Cmps, Stos, Lods, Scas}
 use Rattle.row_table.specs.Rows.{rows}
 use Rattle.string_unit.specs.Strings.{reads, writes, string_accesses, string_byte}
-use Rattle.core_step.specs.declared.kinds.Size.{Size}
+use Rattle.core_step.specs.declared.sizes.Size.{Size}
 use Rattle.core_step.specs.declared.kinds.Operand.{Operand}
-use Rattle.core_step.specs.declared.kinds.Operand.TheVariants.{Absent, Register, HighByte, Memory as InMemory, Number}
+use Rattle.core_step.specs.declared.kinds.Operand.TheVariants.{Absent, Register, HighByte, Memory as InMemory, Number, Mxcsr}
 use Rattle.core_step.specs.declared.kinds.Use.{Use}
 use Rattle.core_step.specs.declared.kinds.Use.TheVariants.{Read as Reads, Write as Writes, Update}
 use Rattle.core_step.specs.declared.kinds.Instruction.{Instruction}
 use Rattle.core_step.specs.declared.kinds.Outcome.{Outcome}
-use Rattle.core_step.specs.declared.kinds.StringPlan.{StringPlan}
-use Rattle.core_step.specs.declared.kinds.PairPlan.{PairPlan}
+use Rattle.core_step.specs.declared.strings.StringPlan.{StringPlan}
+use Rattle.core_step.specs.declared.pair.PairPlan.{PairPlan}
 use Rattle.core_step.specs.declared.kinds.Plan.{Plan}
 use Rattle.core_step.specs.declared.kinds.Plan.TheVariants.{Plain, OnStrings, OnPair}
 use Rattle.machine_state.specs.declared.kinds.Access.{Access}
@@ -61,6 +61,7 @@ byte_after-spared (InMemory addr) size (Some number) byte at spared =
     written_outside byte addr (bytes_in size) (number_bytes (bytes_in size) number) at (length-number_bytes (bytes_in size) number)
     (spared-write addr (bytes_in size) at [] spared)
 byte_after-spared (Number to) size (Some number) byte at spared = refl
+byte_after-spared Mxcsr size (Some number) byte at spared = refl
 
 -- a destination that is only read gets no number, and each other is accessed by a write
 number_for-spared : (usage : Use) (operand : Operand) (size : Size) (number : Option ℕ) (byte : ℕ → ℕ) (at : ℕ)

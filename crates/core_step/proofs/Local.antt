@@ -10,29 +10,27 @@ use Rattle.gpr_flags.specs.declared.kinds.Fault.TheVariants.{Undefined, General}
 use Rattle.gpr_flags.specs.declared.kinds.Flags.{Flags}
 use Rattle.machine_state.specs.declared.kinds.Miss.{Miss}
 use Rattle.machine_state.specs.declared.kinds.Miss.TheVariants.{NonCanonical}
-use Rattle.machine_state.specs.Memory.{Permissions, Memory, is_noncanonical, miss_in, miss_at, or_else, first_miss, bytes_at, written, number_at, number_bytes}
+use Rattle.machine_state.specs.Memory.{page_size, Permissions, Memory, is_noncanonical, miss_in, miss_at, or_else, first_miss, bytes_at, written, number_at, number_bytes}
 use Rattle.machine_state.specs.State.{State}
 use Rattle.gpr_flags.specs.Registers.{RAX, RSI, with_register}
 use Rattle.machine_state.proofs.MemoryLemmas.{bytes_at_same}
 use Rattle.row_table.specs.declared.kinds.Row.{Row}
 use Rattle.row_table.specs.declared.kinds.Decoded.{Decoded}
-use Rattle.row_table.specs.declared.operations.Op.{Op}
-use Rattle.row_table.specs.declared.operations.Op.TheVariants.{Core, String}
-use Rattle.row_table.specs.declared.operations.CoreOp.{CoreOp}
-use Rattle.row_table.specs.declared.operations.CoreOp.TheVariants.{Cmpxchg8b}
 use Rattle.row_table.specs.declared.operations.StringOp.{StringOp}
 use Rattle.row_table.specs.declared.operations.StringOp.TheVariants.{Movs, Cmps, Stos, Lods, Scas}
 use Rattle.row_table.specs.Rows.{rows}
 use Rattle.string_unit.specs.Strings.{reads, writes, string_accesses, passed, compared, string_gprs, string_flags, string_byte}
-use Rattle.core_step.specs.declared.kinds.Size.{Size}
+use Rattle.core_step.specs.declared.sizes.Size.{Size}
 use Rattle.core_step.specs.declared.kinds.Operand.{Operand}
-use Rattle.core_step.specs.declared.kinds.Operand.TheVariants.{Absent, Register, HighByte, Memory as InMemory, Number}
+use Rattle.core_step.specs.declared.kinds.Operand.TheVariants.{Absent, Register, HighByte, Memory as InMemory, Number, Mxcsr}
 use Rattle.core_step.specs.declared.kinds.Use.{Use}
 use Rattle.core_step.specs.declared.kinds.Use.TheVariants.{Read as Reads, Write as Writes, Update}
 use Rattle.core_step.specs.declared.kinds.Instruction.{Instruction}
 use Rattle.core_step.specs.declared.kinds.Outcome.{Outcome}
-use Rattle.core_step.specs.declared.kinds.StringPlan.{StringPlan}
-use Rattle.core_step.specs.declared.kinds.PairPlan.{PairPlan}
+use Rattle.core_step.specs.declared.strings.StringPlan.{StringPlan}
+use Rattle.core_step.specs.declared.pair.PairPlan.{PairPlan}
+use Rattle.core_step.specs.declared.ways.Way.{Way}
+use Rattle.core_step.specs.declared.ways.Way.TheVariants.{Numbers, Strings, Pair}
 use Rattle.core_step.specs.declared.kinds.Plan.{Plan}
 use Rattle.core_step.specs.declared.kinds.Plan.TheVariants.{Plain, OnStrings, OnPair}
 use Rattle.machine_state.specs.declared.kinds.Access.{Access}
@@ -44,7 +42,7 @@ use Rattle.core_step.specs.Result.{outcome_of}
 use Rattle.core_step.specs.Plain.{register_value, value_of, old_value, byte_after, byte_left, destination_number, effect_by, outcome_in, plain_effect}
 use Rattle.core_step.specs.Strings.{strings_of, count_in, is_over, source_of, destination_of, strings_access, with_count, is_continued, gprs_iterated, flags_iterated, byte_iterated, iterated, passed_over}
 use Rattle.core_step.specs.Pair.{pair_of, pair_write, is_equal, pair_at, pair_stored, byte_exchanged, exchanged, pair_effect}
-use Rattle.core_step.specs.Plan.{next_of, core_plan, plan_by, plan_of, plan_accesses, effect_of}
+use Rattle.core_step.specs.Plan.{way_of, next_of, plan_by, plan_of, plan_accesses, effect_of}
 use Rattle.core_step.specs.Alignment.{is_misaligned}
 use Rattle.core_step.specs.Act.{trapped, carried_out, unless, performed_along, performed_as, performed_row, performed}
 use Rattle.core_step.specs.Machine.{accesses, accesses_by, AgreeOn, IsSame, IsLocal}
@@ -53,14 +51,14 @@ use Rattle.core_step.proofs.Seeing.{written_same, seen_same, put_in-same}
 
 -- ---- the fault
 -- why a byte can't be had depends on its page's permissions alone
-miss_at_same : (perms others : Permissions) (kind : Kind) (addr : ℕ) → perms (addr / 4096) ≡ others (addr / 4096)
+miss_at_same : (perms others : Permissions) (kind : Kind) (addr : ℕ) → perms (addr / page_size) ≡ others (addr / page_size)
     → miss_at perms kind addr ≡ miss_at others kind addr
 miss_at_same perms others kind addr same =
     ap (λ (page : Option ℕ). cond (is_noncanonical addr) (Some (NonCanonical addr)) (miss_in page kind addr)) same
 
 -- the first byte that isn't allowed depends on the permissions of the access's pages alone
 first_miss_same : (perms others : Permissions) (kind : Kind) (addr len : ℕ)
-    → ((at : ℕ) → addr ≤ at → at < addr + len → perms (at / 4096) ≡ others (at / 4096))
+    → ((at : ℕ) → addr ≤ at → at < addr + len → perms (at / page_size) ≡ others (at / page_size))
     → first_miss perms kind addr len ≡ first_miss others kind addr len
 unfolding first_miss
 first_miss_same perms others kind addr zero same = refl
@@ -95,25 +93,26 @@ bytes_same access memory other agree =
     bytes_at_same memory.byte other.byte access.addr access.len (λ i inside. (agree (access.addr + i) (omega arith) (omega arith)).1)
 
 -- where memories agree on the access of an operand, its number is the same
-value_of_same : (kind : Kind) (operand : Operand) (size : Size) (gprs : List ℕ) (memory other : Memory)
+value_of_same : (kind : Kind) (operand : Operand) (size : Size) (p : Processor) (memory other : Memory)
     → All (AgreeOn memory other) (operand_access kind operand size)
-    → value_of operand size gprs memory.byte ≡ value_of operand size gprs other.byte
+    → value_of operand size p memory.byte ≡ value_of operand size p other.byte
 unfolding value_of
-value_of_same kind Absent size gprs memory other agree = refl
-value_of_same kind (Register number) size gprs memory other agree = refl
-value_of_same kind (HighByte number) size gprs memory other agree = refl
-value_of_same kind (InMemory addr) size gprs memory other agree =
+value_of_same kind Absent size p memory other agree = refl
+value_of_same kind (Register number) size p memory other agree = refl
+value_of_same kind (HighByte number) size p memory other agree = refl
+value_of_same kind (InMemory addr) size p memory other agree =
     let access : Access = record { kind = kind; addr = addr; len = bytes_in size } in
     ap (little_number (bytes_in size)) (bytes_same access memory other (All-head (AgreeOn memory other) access [] agree))
-value_of_same kind (Number number) size gprs memory other agree = refl
+value_of_same kind (Number number) size p memory other agree = refl
+value_of_same kind Mxcsr size p memory other agree = refl
 
 -- where memories agree on the access of a destination, what stood there is the same; it counts only where it is read
-old_value_same : (usage : Use) (operand : Operand) (size : Size) (gprs : List ℕ) (memory other : Memory)
+old_value_same : (usage : Use) (operand : Operand) (size : Size) (p : Processor) (memory other : Memory)
     → All (AgreeOn memory other) (operand_access (kind_of usage) operand size)
-    → old_value usage operand size gprs memory.byte ≡ old_value usage operand size gprs other.byte
-old_value_same Reads operand size gprs memory other agree = value_of_same _ operand size gprs memory other agree
-old_value_same Writes operand size gprs memory other agree = refl
-old_value_same Update operand size gprs memory other agree = value_of_same _ operand size gprs memory other agree
+    → old_value usage operand size p memory.byte ≡ old_value usage operand size p other.byte
+old_value_same Reads operand size p memory other agree = value_of_same _ operand size p memory other agree
+old_value_same Writes operand size p memory other agree = refl
+old_value_same Update operand size p memory other agree = value_of_same _ operand size p memory other agree
 
 -- ---- the bytes
 -- a number that goes to an operand keeps each byte the same that was the same
@@ -125,6 +124,7 @@ byte_after_same (Register to) size (Some number) byte other at same = same
 byte_after_same (HighByte to) size (Some number) byte other at same = same
 byte_after_same (InMemory addr) size (Some number) byte other at same = written_same byte other addr (number_bytes (bytes_in size) number) at same
 byte_after_same (Number to) size (Some number) byte other at same = same
+byte_after_same Mxcsr size (Some number) byte other at same = same
 
 -- an outcome keeps each byte the same that was the same
 byte_left_same : (i : Instruction) (o : Outcome) (byte other : ℕ → ℕ) (at : ℕ) → byte at ≡ other at
@@ -144,13 +144,11 @@ pub record Agrees (byte other : ℕ → ℕ) (e f : Effect) : Type 0 where
 outcome_same : (i : Instruction) (p : Processor) (memory other : Memory) → All (AgreeOn memory other) (accesses_of i)
     → outcome_in i p memory.byte ≡ outcome_in i p other.byte
 outcome_same i p memory other agree =
-    ap (λ (a : ℕ).
-    outcome_of i a (value_of i.source i.source_size p.gprs memory.byte) (register_value i.beside i.beside_size p.gprs) p.flags p.steps)
-    (old_value_same i.usage i.destination i.size p.gprs memory other (All-destination (AgreeOn memory other) i agree))
+    ap (λ (a : ℕ). outcome_of i a (value_of i.source i.source_size p memory.byte) (register_value i.beside i.beside_size p) p.flags p.steps)
+    (old_value_same i.usage i.destination i.size p memory other (All-destination (AgreeOn memory other) i agree))
     ∙ ap (λ (b : ℕ).
-    outcome_of i (old_value i.usage i.destination i.size p.gprs other.byte) b (register_value i.beside i.beside_size p.gprs)
-    p.flags p.steps)
-    (value_of_same Read i.source i.source_size p.gprs memory other (All-source (AgreeOn memory other) i agree))
+    outcome_of i (old_value i.usage i.destination i.size p other.byte) b (register_value i.beside i.beside_size p) p.flags p.steps)
+    (value_of_same Read i.source i.source_size p memory other (All-source (AgreeOn memory other) i agree))
 
 plain-agrees : (i : Instruction) (p : Processor) (memory other : Memory) → All (AgreeOn memory other) (accesses_of i)
     → Agrees memory.byte other.byte (plain_effect i p memory.byte) (plain_effect i p other.byte)
@@ -301,10 +299,10 @@ along-same xs plan s other agree =
     (first_fault_same xs s.memory other agree) (unless-same (first_fault s.memory.perms xs) xs plan s other agree)
 
 -- ---- the plan of an instruction doesn't depend on memory
-instruction_same : (row : Row) (d : Decoded) (len : ℕ) (s : State) (other : Memory)
-    → instruction_of row d len (with_memory s other) ≡ instruction_of row d len s
+instruction_same : (row : Row) (d : Decoded) (next : ℕ) (s : State) (other : Memory)
+    → instruction_of row d next (with_memory s other) ≡ instruction_of row d next s
 unfolding instruction_of instruction_by
-instruction_same row d len s other = refl
+instruction_same row d next s other = refl
 
 pair_of_same : (row : Row) (d : Decoded) (next : ℕ) (s : State) (other : Memory)
     → pair_of row d next (with_memory s other) ≡ pair_of row d next s
@@ -316,22 +314,16 @@ strings_of_same : (op : StringOp) (row : Row) (d : Decoded) (next : ℕ) (s : St
 unfolding strings_of
 strings_of_same op row d next s other = refl
 
-core_plan_same : (op : CoreOp) (row : Row) (d : Decoded) (len : ℕ) (s : State) (other : Memory)
-    → core_plan op row d len (with_memory s other) ≡ core_plan op row d len s
-unfolding core_plan
-core_plan_same Cmpxchg8b row d len s other = ap OnPair (pair_of_same row d (next_of len s) s other)
-core_plan_same op row d len s other = ap Plain (instruction_same row d len s other)
-
-plan_by_same : (op : Op) (row : Row) (d : Decoded) (len : ℕ) (s : State) (other : Memory)
-    → plan_by op row d len (with_memory s other) ≡ plan_by op row d len s
-plan_by_same (String op) row d len s other = ap OnStrings (strings_of_same op row d (next_of len s) s other)
-plan_by_same (Core op) row d len s other = core_plan_same op row d len s other
-plan_by_same op row d len s other = ap Plain (instruction_same row d len s other)
+plan_by_same : (way : Way) (row : Row) (d : Decoded) (next : ℕ) (s : State) (other : Memory)
+    → plan_by way row d next (with_memory s other) ≡ plan_by way row d next s
+plan_by_same Numbers row d next s other = ap Plain (instruction_same row d next s other)
+plan_by_same (Strings op) row d next s other = ap OnStrings (strings_of_same op row d next s other)
+plan_by_same Pair row d next s other = ap OnPair (pair_of_same row d next s other)
 
 plan_of_same : (row : Row) (d : Decoded) (len : ℕ) (s : State) (other : Memory)
     → plan_of row d len (with_memory s other) ≡ plan_of row d len s
 unfolding plan_of
-plan_of_same row d len s other = plan_by_same row.op row d len s other
+plan_of_same row d len s other = plan_by_same (way_of row.op) row d (next_of len s) s other
 
 -- nor do its access list and its alignment
 accesses-same : (plan : Plan) (s : State) (other : Memory) → plan_accesses plan (with_memory s other) ≡ plan_accesses plan s

@@ -3,6 +3,7 @@ use Rattle.std.proofs.Common.{◌≡◌, ℕ, ◌+◌, ◌*◌, ◌/◌, ◌≤�
 use Rattle.std.specs.List.{All}
 use Rattle.std.proofs.lemmas.Bool.{cases_lt}
 use Rattle.std.proofs.lemmas.List.Elements.{All-nil, All-cons, All-head, All-tail, All-append, All-weaker, Contains-append_right}
+use Rattle.machine_state.specs.Memory.{page_size}
 use Rattle.machine_state.specs.State.{State}
 use Rattle.machine_state.specs.declared.kinds.Kind.{Kind}
 use Rattle.machine_state.specs.declared.kinds.Access.{Access}
@@ -12,12 +13,12 @@ use Rattle.row_table.specs.declared.operations.StringOp.{StringOp}
 use Rattle.row_table.specs.declared.operations.StringOp.TheVariants.{Movs, Cmps, Stos, Lods, Scas}
 use Rattle.row_table.specs.Rows.{rows}
 use Rattle.string_unit.specs.Strings.{string_accesses}
-use Rattle.core_step.specs.declared.kinds.Size.{Size}
-use Rattle.core_step.specs.declared.kinds.Size.TheVariants.{Byte, Word, Double, Quad}
+use Rattle.core_step.specs.declared.sizes.Size.{Size}
+use Rattle.core_step.specs.declared.sizes.Size.TheVariants.{Byte, Word, Double, Quad}
 use Rattle.core_step.specs.declared.kinds.Operand.{Operand}
-use Rattle.core_step.specs.declared.kinds.Operand.TheVariants.{Absent, Register, HighByte, Memory, Number}
+use Rattle.core_step.specs.declared.kinds.Operand.TheVariants.{Absent, Register, HighByte, Memory, Number, Mxcsr}
 use Rattle.core_step.specs.declared.kinds.Instruction.{Instruction}
-use Rattle.core_step.specs.declared.kinds.PairPlan.{PairPlan}
+use Rattle.core_step.specs.declared.pair.PairPlan.{PairPlan}
 use Rattle.core_step.specs.declared.kinds.Plan.{Plan}
 use Rattle.core_step.specs.declared.kinds.Plan.TheVariants.{Plain, OnStrings, OnPair}
 use Rattle.core_step.specs.Size.{bytes_in}
@@ -31,7 +32,7 @@ use Rattle.core_step.specs.Machine.{accesses, accesses_by}
 
 -- no access is longer than a page
 abbrev IsShort : Access → Type 0
-IsShort access = access.len ≤ 4096
+IsShort access = access.len ≤ page_size
 
 -- so many accesses at most, and short ones
 record AreFew (most : ℕ) (xs : List Access) : Type 0 where
@@ -54,7 +55,7 @@ few-more m n xs le few = record { count = omega (arith, few.count); short = few.
 -- ---- the pages of short accesses: that of the first byte, and the next
 pages_of : List Access → List ℕ
 pages_of [] = []
-pages_of (access ∷ rest) = (access.addr / 4096) ∷ (access.addr / 4096 + 1) ∷ pages_of rest
+pages_of (access ∷ rest) = (access.addr / page_size) ∷ (access.addr / page_size + 1) ∷ pages_of rest
 
 length-pages_of : (xs : List Access) → length (pages_of xs) ≡ 2 * length xs
 unfolding pages_of
@@ -62,8 +63,8 @@ length-pages_of [] = refl
 length-pages_of (access ∷ rest) = omega (arith, length-pages_of rest)
 
 lies-first : (access : Access) (rest : List ℕ) → IsShort access
-    → LiesOn ((access.addr / 4096) ∷ (access.addr / 4096 + 1) ∷ rest) access
-lies-first access rest short at low high = elim (cases_lt (access.addr / 4096) (at / 4096)) [
+    → LiesOn ((access.addr / page_size) ∷ (access.addr / page_size + 1) ∷ rest) access
+lies-first access rest short at low high = elim (cases_lt (access.addr / page_size) (at / page_size)) [
   | inl above ↦ (1, omega arith, omega (arith, short))
   | inr below ↦ (0, omega arith, omega arith)
 ]
@@ -72,10 +73,10 @@ lies-all : (xs : List Access) → All IsShort xs → All (LiesOn (pages_of xs)) 
 unfolding pages_of
 lies-all [] short = All-nil (LiesOn [])
 lies-all (access ∷ rest) short =
-    let here : ℕ = access.addr / 4096 in
+    let here : ℕ = access.addr / page_size in
     All-cons (LiesOn (here ∷ (here + 1) ∷ pages_of rest)) access rest (lies-first access (pages_of rest) (All-head IsShort access rest short))
     (All-weaker (LiesOn (pages_of rest)) (LiesOn (here ∷ (here + 1) ∷ pages_of rest))
-    (λ other lies at low high. Contains-append_right (here ∷ (here + 1) ∷ []) (pages_of rest) (at / 4096) (lies at low high)) rest
+    (λ other lies at low high. Contains-append_right (here ∷ (here + 1) ∷ []) (pages_of rest) (at / page_size) (lies at low high)) rest
     (lies-all rest (All-tail IsShort access rest short)))
 
 few-touch : (most : ℕ) (xs : List Access) → AreFew most xs → TouchesAtMost (2 * most) xs
@@ -98,6 +99,7 @@ operand-few kind (Register number) size = few-none 1
 operand-few kind (HighByte number) size = few-none 1
 operand-few kind (Memory addr) size = few-one _ (omega (arith, bytes-short size))
 operand-few kind (Number number) size = few-none 1
+operand-few kind Mxcsr size = few-none 1
 
 plain-few : (i : Instruction) → AreFew 2 (accesses_of i)
 unfolding accesses_of

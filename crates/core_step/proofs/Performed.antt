@@ -1,10 +1,9 @@
 -- Every row of the table is performed, and so its instructions aren't undefined.
-use Rattle.std.proofs.Common.{◌≡◌, ℕ, zero, suc, Bool, true, false, ◌&&◌, cond, List, [], ◌∷◌, slice_get, refl, sym, subst, ◌∙◌}
-use Rattle.std.specs.Prelude.{⊤}
+use Rattle.std.proofs.Common.{◌≡◌, ℕ, zero, suc, Bool, true, false, ◌&&◌, cond, nat_lt, List, [], ◌∷◌, slice_get, refl, sym, subst, ◌∙◌}
 use Rattle.std.proofs.Common.{Some as some}
 use Rattle.std.proofs.lemmas.Bool.{and_parts}
 use Rattle.gpr_flags.specs.declared.kinds.Flags.{Flags}
-use Rattle.gpr_flags.specs.declared.kinds.Fault.TheVariants.{Undefined, Divide}
+use Rattle.gpr_flags.specs.declared.kinds.Fault.TheVariants.{Undefined, Divide, General}
 use Rattle.gpr_units.specs.Divide.{is_refused}
 use Rattle.machine_state.specs.declared.kinds.Kind.{Kind}
 use Rattle.machine_state.specs.declared.kinds.Miss.{Miss}
@@ -15,26 +14,29 @@ use Rattle.row_table.specs.declared.kinds.Decoded.{Decoded}
 use Rattle.row_table.specs.declared.operations.Op.{Op}
 use Rattle.row_table.specs.declared.operations.Op.TheVariants.{Core, Gpr, Bit, String, Lane, Cross, Width, Mac, Mask, Vector, Gather, Xsave}
 use Rattle.row_table.specs.declared.operations.CoreOp.{CoreOp}
-use Rattle.row_table.specs.declared.operations.CoreOp.TheVariants.{Cmpxchg8b, Nop}
+use Rattle.row_table.specs.declared.operations.CoreOp.TheVariants.{Cmpxchg8b, Nop, Ldmxcsr}
 use Rattle.row_table.specs.declared.operations.GprOp.{GprOp}
 use Rattle.row_table.specs.declared.operations.GprOp.TheVariants.{Div, Idiv}
 use Rattle.row_table.specs.declared.operations.BitOp.{BitOp}
 use Rattle.row_table.specs.declared.operations.BitOp.TheVariants.{Rol}
 use Rattle.row_table.specs.Letters.{layout_of, letters}
 use Rattle.row_table.specs.Legacy.{legacy, one_byte, two_byte, three_byte}
+use Rattle.row_table.specs.Vex.{vex_rows, vex_0f, vex_0f38, vex_0f3a}
 use Rattle.row_table.specs.Rows.{rows}
 use Rattle.core_step.specs.declared.acted.Acted.{Acted}
 use Rattle.core_step.specs.declared.acted.Acted.TheVariants.{Done, Trap}
+use Rattle.core_step.specs.declared.ways.Way.{Way}
+use Rattle.core_step.specs.declared.ways.Way.TheVariants.{Numbers, Strings, Pair}
 use Rattle.core_step.specs.declared.kinds.Instruction.{Instruction}
 use Rattle.core_step.specs.declared.kinds.Outcome.{Outcome}
-use Rattle.core_step.specs.declared.kinds.StringPlan.{StringPlan}
+use Rattle.core_step.specs.declared.strings.StringPlan.{StringPlan}
 use Rattle.core_step.specs.Size.{bits_in}
 use Rattle.core_step.specs.Roles.{roles_of, core_roles, gpr_roles, bit_roles}
 use Rattle.core_step.specs.Operands.{instruction_of, instruction_by, op_of}
 use Rattle.core_step.specs.Access.{acted_by_miss}
 use Rattle.core_step.specs.Strings.{strings_of, is_over, passed_over, iterated}
-use Rattle.core_step.specs.Plan.{core_plan, plan_by, plan_of, next_of, effect_of}
-use Rattle.core_step.specs.Result.{faults, core_outcome, gpr_outcome, bit_outcome, outcome_by, outcome_of}
+use Rattle.core_step.specs.Plan.{core_way, way_of, plan_by, plan_of, next_of, effect_of}
+use Rattle.core_step.specs.Result.{gives, faults, core_outcome, gpr_outcome, bit_outcome, outcome_by, outcome_of}
 use Rattle.core_step.specs.Effect.{Processor}
 use Rattle.core_step.specs.Plain.{outcome_in}
 use Rattle.core_step.specs.Performed.{core_performed, is_performed, are_placed, IsPerformed}
@@ -49,7 +51,7 @@ all_performed [] = true
 all_performed (row ∷ rest) = is_row_performed row && all_performed rest
 
 rows-performed : all_performed rows ≡ true
-unfolding all_performed is_performed core_performed core_roles gpr_roles bit_roles layout_of letters rows legacy one_byte two_byte three_byte
+unfolding all_performed is_performed core_performed core_roles gpr_roles bit_roles layout_of letters rows legacy one_byte two_byte three_byte vex_rows vex_0f vex_0f38 vex_0f3a
 rows-performed = refl
 
 same_row : (row other : Row) → some row ≡ some other → row ≡ other
@@ -73,34 +75,25 @@ IsDefined acted = acted ≡ Trap Undefined → ⊥
 
 -- an operation that is performed on numbers
 abbrev IsPlain : Op → Type 0
-IsPlain (Core op) = (core_performed op ≡ true) × (op ≡ Cmpxchg8b → ⊥)
-IsPlain (Gpr op) = ⊤
-IsPlain (Bit op) = ⊤
-IsPlain (String op) = ⊥
-IsPlain (Lane op) = ⊥
-IsPlain (Cross op) = ⊥
-IsPlain (Width op) = ⊥
-IsPlain (Mac op) = ⊥
-IsPlain (Mask op) = ⊥
-IsPlain (Vector op) = ⊥
-IsPlain (Gather op) = ⊥
-IsPlain (Xsave op) = ⊥
+IsPlain op = (is_performed op ≡ true) × (way_of op ≡ Numbers)
+
+-- of two outcomes
+chosen-defined : (first : Bool) (o other : Outcome) → IsDefined o.acted → IsDefined other.acted → IsDefined (cond first o other).acted
+chosen-defined true o other h more = h
+chosen-defined false o other h more = more
 
 core-defined : (op : CoreOp) (i : Instruction) (a b c : ℕ) (flags : Flags) (steps : ℕ) → core_performed op ≡ true
-    → (op ≡ Cmpxchg8b → ⊥) → IsDefined (core_outcome op i a b c flags steps).acted
-unfolding core_performed core_outcome
-core-defined Cmpxchg8b i a b c flags steps h other e = other refl
-core-defined op i a b c flags steps h other e = cc
-
-divides-defined : (refused : Bool) (i : Instruction) (o : Outcome) (flags : Flags) → o.acted ≡ Done
-    → IsDefined (cond refused (faults Divide i flags) o).acted
-divides-defined true i o flags done = λ e. cc
-divides-defined false i o flags done = λ e. let clash : Done ≡ Trap Undefined = sym done ∙ e in cc
+    → core_way op ≡ Numbers → IsDefined (core_outcome op i a b c flags steps).acted
+unfolding core_performed core_way core_outcome
+core-defined Cmpxchg8b i a b c flags steps h plain e = absurd (let clash : Pair ≡ Numbers = plain in cc)
+core-defined Ldmxcsr i a b c flags steps h plain e =
+    chosen-defined (nat_lt b 65536) (gives b i flags) (faults General i flags) (λ done. cc) (λ fault. cc) e
+core-defined op i a b c flags steps h plain e = cc
 
 gpr-defined : (op : GprOp) (i : Instruction) (a b c : ℕ) (flags : Flags) → IsDefined (gpr_outcome op i a b c flags).acted
 unfolding gpr_outcome
-gpr-defined Div i a b c flags = divides-defined (is_refused false (bits_in i.size) c a b) i _ flags refl
-gpr-defined Idiv i a b c flags = divides-defined (is_refused true (bits_in i.size) c a b) i _ flags refl
+gpr-defined Div i a b c flags = chosen-defined (is_refused false (bits_in i.size) c a b) (faults Divide i flags) _ (λ e. cc) (λ e. cc)
+gpr-defined Idiv i a b c flags = chosen-defined (is_refused true (bits_in i.size) c a b) (faults Divide i flags) _ (λ e. cc) (λ e. cc)
 gpr-defined op i a b c flags = λ e. cc
 
 bit-defined : (op : BitOp) (i : Instruction) (a b c : ℕ) (flags : Flags) → IsDefined (bit_outcome op i a b c flags).acted
@@ -110,48 +103,41 @@ bit-defined op i a b c flags e = cc
 
 outcome-defined : (op : Op) (i : Instruction) (a b c : ℕ) (flags : Flags) (steps : ℕ) → IsPlain op
     → IsDefined (outcome_by op i a b c flags steps).acted
+unfolding is_performed
 outcome-defined (Core op) i a b c flags steps h = core-defined op i a b c flags steps h.0 h.1
 outcome-defined (Gpr op) i a b c flags steps h = gpr-defined op i a b c flags
 outcome-defined (Bit op) i a b c flags steps h = bit-defined op i a b c flags
-outcome-defined op i a b c flags steps h = absurd h
+outcome-defined (String op) i a b c flags steps h = absurd (let clash : Strings op ≡ Numbers = h.1 in cc)
+outcome-defined op i a b c flags steps h = absurd (let clash : false ≡ true = h.0 in cc)
 
 -- XCHG of rAX with itself is the no-operation, which is performed
 nop-plain : (itself : Bool) (op : Op) → IsPlain op → IsPlain (cond itself (Core Nop) op)
-unfolding core_performed
-nop-plain true op h = (refl, λ e. cc)
+unfolding is_performed core_performed core_way
+nop-plain true op h = (refl, refl)
 nop-plain false op h = h
 
 -- ---- instructions
-instruction-defined : (row : Row) (d : Decoded) (len : ℕ) (s : State) (p : Processor) (byte : ℕ → ℕ) → IsPlain row.op
-    → IsDefined (outcome_in (instruction_of row d len s) p byte).acted
+instruction-defined : (row : Row) (d : Decoded) (next : ℕ) (s : State) (p : Processor) (byte : ℕ → ℕ) → IsPlain row.op
+    → IsDefined (outcome_in (instruction_of row d next s) p byte).acted
 unfolding instruction_of instruction_by outcome_of
-instruction-defined row d len s p byte h =
+instruction-defined row d next s p byte h =
     outcome-defined (op_of row (layout_of row.operands) d.fields) _ _ _ _ _ _ (nop-plain _ row.op h)
-
-core_plan-defined : (op : CoreOp) (row : Row) (d : Decoded) (len : ℕ) (s : State) (p : Processor) (byte : ℕ → ℕ) → row.op ≡ Core op
-    → core_performed op ≡ true → IsDefined (effect_of (core_plan op row d len s) p byte).acted
-unfolding core_plan
-core_plan-defined Cmpxchg8b row d len s p byte is h = λ e. cc
-core_plan-defined op row d len s p byte is h = instruction-defined row d len s p byte (subst IsPlain (sym is) (h, λ e. cc))
 
 strings-defined : (over : Bool) (i : StringPlan) (p : Processor) (byte : ℕ → ℕ)
     → IsDefined (cond over (passed_over i p byte) (iterated i p byte)).acted
 strings-defined true i p byte = λ e. cc
 strings-defined false i p byte = λ e. cc
 
-plan_by-defined : (op : Op) (row : Row) (d : Decoded) (len : ℕ) (s : State) (p : Processor) (byte : ℕ → ℕ) → row.op ≡ op
-    → is_performed op ≡ true → IsDefined (effect_of (plan_by op row d len s) p byte).acted
-unfolding is_performed
-plan_by-defined (Core op) row d len s p byte is h = core_plan-defined op row d len s p byte is h
-plan_by-defined (Gpr op) row d len s p byte is h = instruction-defined row d len s p byte (subst IsPlain (sym is) tt)
-plan_by-defined (Bit op) row d len s p byte is h = instruction-defined row d len s p byte (subst IsPlain (sym is) tt)
-plan_by-defined (String op) row d len s p byte is h = strings-defined (is_over (strings_of op row d (next_of len s) s) p.gprs) _ p byte
-plan_by-defined op row d len s p byte is h = absurd (let clash : false ≡ true = h in cc)
+plan_by-defined : (way : Way) (row : Row) (d : Decoded) (next : ℕ) (s : State) (p : Processor) (byte : ℕ → ℕ) → way_of row.op ≡ way
+    → is_performed row.op ≡ true → IsDefined (effect_of (plan_by way row d next s) p byte).acted
+plan_by-defined Numbers row d next s p byte is h = instruction-defined row d next s p byte (h, is)
+plan_by-defined (Strings op) row d next s p byte is h = strings-defined (is_over (strings_of op row d next s) p.gprs) _ p byte
+plan_by-defined Pair row d next s p byte is h = λ e. cc
 
 pub plan-defined : (row : Row) (d : Decoded) (len : ℕ) (s : State) (p : Processor) (byte : ℕ → ℕ) → IsPerformed row
     → IsDefined (effect_of (plan_of row d len s) p byte).acted
 unfolding plan_of
-plan-defined row d len s p byte h = plan_by-defined row.op row d len s p byte refl h.operation
+plan-defined row d len s p byte h = plan_by-defined (way_of row.op) row d (next_of len s) s p byte refl h.operation
 
 -- nor is an access that can't be made
 pub miss-defined : (kind : Kind) (miss : Miss) → IsDefined (acted_by_miss kind miss)

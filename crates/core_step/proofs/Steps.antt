@@ -21,7 +21,7 @@ use Rattle.core_step.specs.declared.acted.Acted.TheVariants.{Done, Call, Trap, N
 use Rattle.core_step.specs.declared.machine.Machine.{Machine}
 use Rattle.gpr_flags.specs.declared.kinds.Flags.{Flags}
 use Rattle.core_step.specs.declared.kinds.Outcome.{Outcome}
-use Rattle.core_step.specs.declared.kinds.StringPlan.{StringPlan}
+use Rattle.core_step.specs.declared.strings.StringPlan.{StringPlan}
 use Rattle.core_step.specs.declared.kinds.Plan.{Plan}
 use Rattle.core_step.specs.Fits.{ActedFits}
 use Rattle.core_step.specs.Access.{access_fault, fault_or, first_fault, acted_by_miss}

@@ -9,9 +9,9 @@ use Rattle.gpr_flags.specs.declared.kinds.Fault.TheVariants.{General, Page}
 use Rattle.machine_state.specs.Memory.{Permissions, first_miss}
 use Rattle.core_step.specs.declared.acted.Acted.{Acted}
 use Rattle.core_step.specs.declared.acted.Acted.TheVariants.{Trap, Need}
-use Rattle.core_step.specs.declared.kinds.Size.{Size}
+use Rattle.core_step.specs.declared.sizes.Size.{Size}
 use Rattle.core_step.specs.declared.kinds.Operand.{Operand}
-use Rattle.core_step.specs.declared.kinds.Operand.TheVariants.{Absent, Register, HighByte, Memory, Number}
+use Rattle.core_step.specs.declared.kinds.Operand.TheVariants.{Absent, Register, HighByte, Memory, Number, Mxcsr}
 use Rattle.core_step.specs.declared.kinds.Use.{Use}
 use Rattle.core_step.specs.declared.kinds.Use.TheVariants.{Read as Reads, Write as Writes, Update}
 use Rattle.core_step.specs.declared.kinds.Instruction.{Instruction}
@@ -26,6 +26,7 @@ operand_access kind Absent size = []
 operand_access kind (Register number) size = []
 operand_access kind (HighByte number) size = []
 operand_access kind (Number number) size = []
+operand_access kind Mxcsr size = []
 
 -- an operand that is read and written is accessed once, by a write
 abbrev pub kind_of : Use → Kind

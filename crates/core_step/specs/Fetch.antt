@@ -4,7 +4,7 @@ use Rattle.machine_state.specs.declared.kinds.Kind.TheVariants.{Execute}
 use Rattle.machine_state.specs.declared.kinds.Miss.{Miss}
 use Rattle.machine_state.specs.declared.kinds.Miss.TheVariants.{Unmapped, Denied, NonCanonical, Away}
 use Rattle.gpr_flags.specs.declared.kinds.Fault.TheVariants.{Undefined, General, Page}
-use Rattle.machine_state.specs.Memory.{miss_at, first_miss, bytes_at, allowed_run}
+use Rattle.machine_state.specs.Memory.{page_size, miss_at, first_miss, bytes_at, allowed_run}
 use Rattle.machine_state.specs.State.{State}
 use Rattle.guest_pages.specs.Table.{Table, perms_in, away_at, blocked}
 use Rattle.form_scan.specs.Shaped.{most_bytes}
@@ -51,7 +51,7 @@ pub record NeedsPage (table : Table) (byte : ℕ → ℕ) (rip slot : ℕ) : Typ
   pub ready : blocked table Execute rip count ≡ None
   pub short : seen (bytes_at byte rip count) ≡ Short
   pub allowed : miss_at (perms_in table) Execute (rip + count) ≡ None
-  pub away : away_at (table ((rip + count) / 4096)) ≡ Some (Away slot)
+  pub away : away_at (table ((rip + count) / page_size)) ≡ Some (Away slot)
 
 -- what comes of bytes all of which could be read
 pub record IsOutcome (bytes : List ℕ) (answer : Fetched) : Type 0 where

@@ -5,7 +5,7 @@ use Rattle.row_table.specs.declared.kinds.Fields.{Fields}
 use Rattle.core_step.specs.declared.acted.Acted.{Acted}
 use Rattle.core_step.specs.declared.acted.Acted.TheVariants.{Done, Call, Trap, Need}
 use Rattle.core_step.specs.declared.kinds.Operand.{Operand}
-use Rattle.core_step.specs.declared.kinds.Operand.TheVariants.{Absent, Register, HighByte, Memory, Number}
+use Rattle.core_step.specs.declared.kinds.Operand.TheVariants.{Absent, Register, HighByte, Memory, Number, Mxcsr}
 use Rattle.core_step.specs.declared.kinds.Instruction.{Instruction}
 use Rattle.core_step.specs.declared.kinds.Plan.{Plan}
 use Rattle.core_step.specs.declared.kinds.Plan.TheVariants.{Plain, OnStrings, OnPair}
@@ -24,6 +24,7 @@ OperandFits (Register number) = number < 16
 OperandFits (HighByte number) = number < 4
 OperandFits (Memory addr) = ⊤
 OperandFits (Number number) = ⊤
+OperandFits Mxcsr = ⊤
 
 -- and a condition has one of sixteen numbers
 abbrev pub InstructionFits : Instruction → Type 0

@@ -4,8 +4,8 @@ use Rattle.std.specs.List.{All}
 use Rattle.machine_state.specs.declared.kinds.Kind.TheVariants.{Write}
 use Rattle.machine_state.specs.declared.kinds.Miss.{Miss}
 use Rattle.machine_state.specs.declared.kinds.Miss.TheVariants.{Away}
-use Rattle.machine_state.specs.Memory.{Memory, Swap}
-use Rattle.machine_state.specs.State.{State, initial_extended}
+use Rattle.machine_state.specs.Memory.{page_size, Memory, Swap}
+use Rattle.machine_state.specs.State.{State}
 use Rattle.guest_pages.specs.Pages.{byte_of, memory_of}
 use Rattle.guest_pages.specs.Changes.{KeepsTable}
 use Rattle.row_table.specs.declared.kinds.Row.{Row}
@@ -22,13 +22,13 @@ use Rattle.core_step.specs.Plan.{plan_of, plan_accesses}
 use Rattle.core_step.specs.Alignment.{is_misaligned}
 use Rattle.core_step.specs.Act.{performed}
 
--- the processor of a machine; what the machine doesn't have is as at the start
+-- the processor of a machine
 abbrev pub processor_in : Machine → Processor
 processor_in m = record {
   gprs = m.gprs;
   flags = m.flags;
   rip = m.rip;
-  extended = initial_extended;
+  extended = m.vec;
   fs = m.fs;
   gs = m.gs;
   steps = m.steps;
@@ -78,7 +78,7 @@ needed (Some stop) = away_in stop.miss
 abbrev pub AgreeOn : Memory → Memory → Access → Type 0
 AgreeOn memory other access =
     (at : ℕ) → access.addr ≤ at → at < access.addr + access.len
-    → (memory.perms (at / 4096) ≡ other.perms (at / 4096)) × (memory.byte at ≡ other.byte at)
+    → (memory.perms (at / page_size) ≡ other.perms (at / page_size)) × (memory.byte at ≡ other.byte at)
 
 -- the same answer and the same state but for memory, where permissions stay, and the bytes are the same again at each address
 -- where they were

@@ -15,10 +15,10 @@ use Rattle.row_table.specs.declared.operations.Op.TheVariants.{Core}
 use Rattle.row_table.specs.declared.operations.CoreOp.TheVariants.{Nop}
 use Rattle.row_table.specs.Letters.{layout_of}
 use Rattle.machine_state.specs.State.{State}
-use Rattle.core_step.specs.declared.kinds.Size.{Size}
-use Rattle.core_step.specs.declared.kinds.Size.TheVariants.{Byte, Word, Double, Quad}
+use Rattle.core_step.specs.declared.sizes.Size.{Size}
+use Rattle.core_step.specs.declared.sizes.Size.TheVariants.{Byte, Word, Double, Quad}
 use Rattle.core_step.specs.declared.kinds.Part.{Part}
-use Rattle.core_step.specs.declared.kinds.Part.TheVariants.{Absent as NoPart, First, Second, Third, Bit, Address, Stack, Rax, Rcx, Rdx, Rbp, R11 as InR11, Ah, UpperHalf}
+use Rattle.core_step.specs.declared.kinds.Part.TheVariants.{Absent as NoPart, First, Second, Third, Bit, Address, Stack, Rax, Rcx, Rdx, Rbp, R11 as InR11, Ah, UpperHalf, Mxcsr as InMxcsr}
 use Rattle.core_step.specs.declared.kinds.Breadth.{Breadth}
 use Rattle.core_step.specs.declared.kinds.Breadth.TheVariants.{OfRow, OfStack, OfAddress}
 use Rattle.core_step.specs.declared.kinds.PartBreadth.{PartBreadth}
@@ -27,7 +27,7 @@ use Rattle.core_step.specs.declared.kinds.StackUse.{StackUse}
 use Rattle.core_step.specs.declared.kinds.StackUse.TheVariants.{Aside, Pushes, Pops, Leaves}
 use Rattle.core_step.specs.declared.kinds.Roles.{Roles}
 use Rattle.core_step.specs.declared.kinds.Operand.{Operand}
-use Rattle.core_step.specs.declared.kinds.Operand.TheVariants.{Absent, Register, HighByte, Memory, Number}
+use Rattle.core_step.specs.declared.kinds.Operand.TheVariants.{Absent, Register, HighByte, Memory, Number, Mxcsr}
 use Rattle.core_step.specs.declared.kinds.Bases.{Bases}
 use Rattle.core_step.specs.declared.kinds.Instruction.{Instruction}
 use Rattle.core_step.specs.Size.{bytes_in, bits_in, half_of, cut, sign_extended}
@@ -206,6 +206,7 @@ operand_for Rbp size layout d stack gprs bases = Register RBP
 operand_for InR11 size layout d stack gprs bases = Register R11
 operand_for Ah size layout d stack gprs bases = HighByte RAX
 operand_for UpperHalf size layout d stack gprs bases = upper_half size
+operand_for InMxcsr size layout d stack gprs bases = Mxcsr
 
 -- ---- the whole
 -- the part's operand, of this size, of an instruction whose destination has another
@@ -240,9 +241,9 @@ instruction_with op roles layout row d next s =
 abbrev pub instruction_as : Op → Layout → Row → Decoded → ℕ → State → Instruction
 instruction_as op layout row d next s = instruction_with op (roles_of op layout) layout row d next s
 
--- the instruction of a row and its fields, which has so many bytes
-abbrev pub instruction_in : Layout → Row → Decoded → ℕ → State → Instruction
-instruction_in layout row d len s = instruction_as (op_of row layout d.fields) layout row d ((s.rip + len) % 2 ^ 64) s
+-- the instruction of a row and its fields
+abbrev pub instruction_in : Layout → Row → Decoded → (next : ℕ) → State → Instruction
+instruction_in layout row d next s = instruction_as (op_of row layout d.fields) layout row d next s
 
-unfoldable pub instruction_of : Row → Decoded → ℕ → State → Instruction
-instruction_of row d len s = instruction_in (layout_of row.operands) row d len s
+unfoldable pub instruction_of : Row → Decoded → (next : ℕ) → State → Instruction
+instruction_of row d next s = instruction_in (layout_of row.operands) row d next s

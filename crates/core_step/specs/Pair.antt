@@ -8,10 +8,10 @@ use Rattle.gpr_flags.specs.Registers.{RAX, RCX, RDX, RBX, with_register}
 use Rattle.row_table.specs.declared.kinds.Row.{Row}
 use Rattle.row_table.specs.declared.kinds.Decoded.{Decoded}
 use Rattle.machine_state.specs.declared.kinds.Access.{Access}
-use Rattle.core_step.specs.declared.kinds.Size.{Size}
-use Rattle.core_step.specs.declared.kinds.Size.TheVariants.{Double, Quad}
+use Rattle.core_step.specs.declared.sizes.Size.{Size}
+use Rattle.core_step.specs.declared.sizes.Size.TheVariants.{Double, Quad}
 use Rattle.core_step.specs.declared.acted.Acted.TheVariants.{Done}
-use Rattle.core_step.specs.declared.kinds.PairPlan.{PairPlan}
+use Rattle.core_step.specs.declared.pair.PairPlan.{PairPlan}
 use Rattle.core_step.specs.Size.{bytes_in, bits_in, cut}
 use Rattle.core_step.specs.Address.{address_of}
 use Rattle.core_step.specs.declared.kinds.StackUse.TheVariants.{Aside}

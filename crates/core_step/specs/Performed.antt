@@ -10,7 +10,7 @@ use Rattle.row_table.specs.declared.operations.Op.TheVariants.{Core, Gpr, Bit as
 use Rattle.row_table.specs.declared.operations.CoreOp.{CoreOp}
 use Rattle.row_table.specs.declared.operations.CoreOp.TheVariants.{Mov, Movsxd, Movzx, Movsx, Movbe, Movnti, Lea, Xchg, Push, Pop, Pushf, Popf, Leave, Call, Ret, Jmp, Jcc, Loopne, Loope, Loop, Jrcxz, Cmovcc, Setcc, Cbw, Cwd, Bswap, Cmc, Clc, Stc, Cld, Std, Sahf, Lahf, Int3, Hlt, Syscall, Rdtsc, Cpuid, Nop, Xadd, Cmpxchg, Cmpxchg8b, Xgetbv, Ldmxcsr, Stmxcsr, Clflush, Vzeroupper, Vzeroall}
 use Rattle.core_step.specs.declared.kinds.Part.{Part}
-use Rattle.core_step.specs.declared.kinds.Part.TheVariants.{Absent, First, Second, Third, Bit, Address, Stack, Rax, Rcx, Rdx, Rbp, R11, Ah, UpperHalf}
+use Rattle.core_step.specs.declared.kinds.Part.TheVariants.{Absent, First, Second, Third, Bit, Address, Stack, Rax, Rcx, Rdx, Rbp, R11, Ah, UpperHalf, Mxcsr}
 use Rattle.core_step.specs.declared.kinds.Roles.{Roles}
 use Rattle.core_step.specs.Roles.{roles_of}
 
@@ -57,11 +57,11 @@ core_performed Nop = true
 core_performed Xadd = true
 core_performed Cmpxchg = true
 core_performed Cmpxchg8b = true
+core_performed Ldmxcsr = true
+core_performed Stmxcsr = true
 core_performed Clflush = true
 core_performed Cpuid = false
 core_performed Xgetbv = false
-core_performed Ldmxcsr = false
-core_performed Stmxcsr = false
 core_performed Vzeroupper = false
 core_performed Vzeroall = false
 
@@ -120,6 +120,7 @@ has_place layout Rbp = true
 has_place layout R11 = true
 has_place layout Ah = true
 has_place layout UpperHalf = true
+has_place layout Mxcsr = true
 
 abbrev pub are_placed : Layout → Roles → Bool
 are_placed layout roles =

@@ -8,6 +8,8 @@ use Rattle.row_table.specs.declared.operations.CoreOp.{CoreOp}
 use Rattle.row_table.specs.declared.operations.CoreOp.TheVariants.{Mov, Movsxd, Movzx, Movsx, Movbe, Movnti, Lea, Xchg, Push, Pop, Pushf, Popf, Leave, Call, Ret, Jmp, Jcc, Loopne, Loope, Loop, Jrcxz, Cmovcc, Setcc, Cbw, Cwd, Bswap, Cmc, Clc, Stc, Cld, Std, Sahf, Lahf, Int3, Hlt, Syscall, Rdtsc, Cpuid, Nop, Xadd, Cmpxchg, Cmpxchg8b, Xgetbv, Ldmxcsr, Stmxcsr, Clflush, Vzeroupper, Vzeroall}
 use Rattle.machine_state.specs.State.{State}
 use Rattle.machine_state.specs.declared.kinds.Access.{Access}
+use Rattle.core_step.specs.declared.ways.Way.{Way}
+use Rattle.core_step.specs.declared.ways.Way.TheVariants.{Numbers, Strings, Pair}
 use Rattle.core_step.specs.declared.kinds.Plan.{Plan}
 use Rattle.core_step.specs.declared.kinds.Plan.TheVariants.{Plain, OnStrings, OnPair}
 use Rattle.core_step.specs.Operands.{instruction_of}
@@ -17,77 +19,84 @@ use Rattle.core_step.specs.Plain.{plain_effect}
 use Rattle.core_step.specs.Strings.{strings_of, strings_access, strings_effect}
 use Rattle.core_step.specs.Pair.{pair_of, pair_access, pair_effect}
 
+-- ---- the way in which an operation is performed
+unfoldable pub core_way : CoreOp → Way
+core_way Mov = Numbers
+core_way Movsxd = Numbers
+core_way Movzx = Numbers
+core_way Movsx = Numbers
+core_way Movbe = Numbers
+core_way Movnti = Numbers
+core_way Lea = Numbers
+core_way Xchg = Numbers
+core_way Push = Numbers
+core_way Pop = Numbers
+core_way Pushf = Numbers
+core_way Popf = Numbers
+core_way Leave = Numbers
+core_way Call = Numbers
+core_way Ret = Numbers
+core_way Jmp = Numbers
+core_way Jcc = Numbers
+core_way Loopne = Numbers
+core_way Loope = Numbers
+core_way Loop = Numbers
+core_way Jrcxz = Numbers
+core_way Cmovcc = Numbers
+core_way Setcc = Numbers
+core_way Cbw = Numbers
+core_way Cwd = Numbers
+core_way Bswap = Numbers
+core_way Cmc = Numbers
+core_way Clc = Numbers
+core_way Stc = Numbers
+core_way Cld = Numbers
+core_way Std = Numbers
+core_way Sahf = Numbers
+core_way Lahf = Numbers
+core_way Int3 = Numbers
+core_way Hlt = Numbers
+core_way Syscall = Numbers
+core_way Rdtsc = Numbers
+core_way Cpuid = Numbers
+core_way Nop = Numbers
+core_way Xadd = Numbers
+core_way Cmpxchg = Numbers
+core_way Cmpxchg8b = Pair
+core_way Xgetbv = Numbers
+core_way Ldmxcsr = Numbers
+core_way Stmxcsr = Numbers
+core_way Clflush = Numbers
+core_way Vzeroupper = Numbers
+core_way Vzeroall = Numbers
+
+abbrev pub way_of : Op → Way
+way_of (Core op) = core_way op
+way_of (Gpr op) = Numbers
+way_of (Bit op) = Numbers
+way_of (String op) = Strings op
+way_of (Lane op) = Numbers
+way_of (Cross op) = Numbers
+way_of (Width op) = Numbers
+way_of (Mac op) = Numbers
+way_of (Mask op) = Numbers
+way_of (Vector op) = Numbers
+way_of (Gather op) = Numbers
+way_of (Xsave op) = Numbers
+
+-- ---- the instruction
+abbrev pub plan_by : Way → Row → Decoded → (next : ℕ) → State → Plan
+plan_by Numbers row d next s = Plain (instruction_of row d next s)
+plan_by (Strings op) row d next s = OnStrings (strings_of op row d next s)
+plan_by Pair row d next s = OnPair (pair_of row d next s)
+
 -- where the next instruction stands
 abbrev pub next_of : (len : ℕ) → State → ℕ
 next_of len s = (s.rip + len) % 2 ^ 64
 
-unfoldable pub core_plan : CoreOp → Row → Decoded → (len : ℕ) → State → Plan
-core_plan Mov row d len s = Plain (instruction_of row d len s)
-core_plan Movsxd row d len s = Plain (instruction_of row d len s)
-core_plan Movzx row d len s = Plain (instruction_of row d len s)
-core_plan Movsx row d len s = Plain (instruction_of row d len s)
-core_plan Movbe row d len s = Plain (instruction_of row d len s)
-core_plan Movnti row d len s = Plain (instruction_of row d len s)
-core_plan Lea row d len s = Plain (instruction_of row d len s)
-core_plan Xchg row d len s = Plain (instruction_of row d len s)
-core_plan Push row d len s = Plain (instruction_of row d len s)
-core_plan Pop row d len s = Plain (instruction_of row d len s)
-core_plan Pushf row d len s = Plain (instruction_of row d len s)
-core_plan Popf row d len s = Plain (instruction_of row d len s)
-core_plan Leave row d len s = Plain (instruction_of row d len s)
-core_plan Call row d len s = Plain (instruction_of row d len s)
-core_plan Ret row d len s = Plain (instruction_of row d len s)
-core_plan Jmp row d len s = Plain (instruction_of row d len s)
-core_plan Jcc row d len s = Plain (instruction_of row d len s)
-core_plan Loopne row d len s = Plain (instruction_of row d len s)
-core_plan Loope row d len s = Plain (instruction_of row d len s)
-core_plan Loop row d len s = Plain (instruction_of row d len s)
-core_plan Jrcxz row d len s = Plain (instruction_of row d len s)
-core_plan Cmovcc row d len s = Plain (instruction_of row d len s)
-core_plan Setcc row d len s = Plain (instruction_of row d len s)
-core_plan Cbw row d len s = Plain (instruction_of row d len s)
-core_plan Cwd row d len s = Plain (instruction_of row d len s)
-core_plan Bswap row d len s = Plain (instruction_of row d len s)
-core_plan Cmc row d len s = Plain (instruction_of row d len s)
-core_plan Clc row d len s = Plain (instruction_of row d len s)
-core_plan Stc row d len s = Plain (instruction_of row d len s)
-core_plan Cld row d len s = Plain (instruction_of row d len s)
-core_plan Std row d len s = Plain (instruction_of row d len s)
-core_plan Sahf row d len s = Plain (instruction_of row d len s)
-core_plan Lahf row d len s = Plain (instruction_of row d len s)
-core_plan Int3 row d len s = Plain (instruction_of row d len s)
-core_plan Hlt row d len s = Plain (instruction_of row d len s)
-core_plan Syscall row d len s = Plain (instruction_of row d len s)
-core_plan Rdtsc row d len s = Plain (instruction_of row d len s)
-core_plan Cpuid row d len s = Plain (instruction_of row d len s)
-core_plan Nop row d len s = Plain (instruction_of row d len s)
-core_plan Xadd row d len s = Plain (instruction_of row d len s)
-core_plan Cmpxchg row d len s = Plain (instruction_of row d len s)
-core_plan Cmpxchg8b row d len s = OnPair (pair_of row d (next_of len s) s)
-core_plan Xgetbv row d len s = Plain (instruction_of row d len s)
-core_plan Ldmxcsr row d len s = Plain (instruction_of row d len s)
-core_plan Stmxcsr row d len s = Plain (instruction_of row d len s)
-core_plan Clflush row d len s = Plain (instruction_of row d len s)
-core_plan Vzeroupper row d len s = Plain (instruction_of row d len s)
-core_plan Vzeroall row d len s = Plain (instruction_of row d len s)
-
-abbrev pub plan_by : Op → Row → Decoded → (len : ℕ) → State → Plan
-plan_by (Core op) row d len s = core_plan op row d len s
-plan_by (Gpr op) row d len s = Plain (instruction_of row d len s)
-plan_by (Bit op) row d len s = Plain (instruction_of row d len s)
-plan_by (String op) row d len s = OnStrings (strings_of op row d (next_of len s) s)
-plan_by (Lane op) row d len s = Plain (instruction_of row d len s)
-plan_by (Cross op) row d len s = Plain (instruction_of row d len s)
-plan_by (Width op) row d len s = Plain (instruction_of row d len s)
-plan_by (Mac op) row d len s = Plain (instruction_of row d len s)
-plan_by (Mask op) row d len s = Plain (instruction_of row d len s)
-plan_by (Vector op) row d len s = Plain (instruction_of row d len s)
-plan_by (Gather op) row d len s = Plain (instruction_of row d len s)
-plan_by (Xsave op) row d len s = Plain (instruction_of row d len s)
-
--- the instruction of a row and its fields, by the row's operation
+-- the instruction of a row and its fields, which has so many bytes
 unfoldable pub plan_of : Row → Decoded → (len : ℕ) → State → Plan
-plan_of row d len s = plan_by row.op row d len s
+plan_of row d len s = plan_by (way_of row.op) row d (next_of len s) s
 
 -- the access list
 abbrev pub plan_accesses : Plan → State → List Access

@@ -1,5 +1,5 @@
 -- What comes of each instruction, from the numbers of its destination and its source: the scalar result.
-use Rattle.std.specs.Prelude.{ℕ, ◌+◌, ◌-◌, ◌/◌, ◌%◌, ◌^◌, ◌==◌, Bool, true, false, not, ◌&&◌, if◌then◌else◌, Some, None}
+use Rattle.std.specs.Prelude.{ℕ, ◌+◌, ◌-◌, ◌/◌, ◌%◌, ◌^◌, ◌==◌, Bool, true, false, not, ◌&&◌, nat_lt, if◌then◌else◌, Some, None}
 use Rattle.gpr_flags.specs.declared.kinds.Fault.{Fault}
 use Rattle.gpr_flags.specs.declared.kinds.Fault.TheVariants.{Divide, Breakpoint, Undefined, General}
 use Rattle.gpr_flags.specs.declared.kinds.Flags.{Flags}
@@ -19,7 +19,7 @@ use Rattle.gpr_units.specs.Divide.{is_refused, quotient_of, remainder_of}
 use Rattle.bit_units.specs.Shifts.{shift_value, shift_flags}
 use Rattle.bit_units.specs.Bits.{bits_value, bits_flags}
 use Rattle.core_step.specs.declared.acted.Acted.TheVariants.{Done, Call as Calls, Trap}
-use Rattle.core_step.specs.declared.kinds.Size.{Size}
+use Rattle.core_step.specs.declared.sizes.Size.{Size}
 use Rattle.core_step.specs.declared.kinds.Instruction.{Instruction}
 use Rattle.core_step.specs.declared.kinds.Outcome.{Outcome}
 use Rattle.core_step.specs.Size.{bytes_in, bits_in, cut, sign_extended}
@@ -116,6 +116,10 @@ compares i a b c flags = record (passes i (alu_flags (Gpr Cmp) (bits_in i.size) 
   also = if c == a then None else Some a;
 }
 
+-- a number goes to MXCSR; with a bit from 16 up, which is reserved, it is #GP (SDM volume 2, LDMXCSR)
+abbrev pub loads_control : ℕ → Instruction → Flags → Outcome
+loads_control number i flags = if nat_lt number (2 ^ 16) then gives number i flags else faults General i flags
+
 -- each operation by its page in the SDM's volume 2; a is the destination's number, b the source's and c that of what is read beside
 -- these, and `steps` the number of completed steps
 unfoldable pub core_outcome : CoreOp → Instruction → (a b c : ℕ) → Flags → (steps : ℕ) → Outcome
@@ -163,8 +167,8 @@ core_outcome Cmpxchg i a b c flags steps = compares i a b c flags
 core_outcome Cpuid i a b c flags steps = unperformed i flags
 core_outcome Cmpxchg8b i a b c flags steps = unperformed i flags
 core_outcome Xgetbv i a b c flags steps = unperformed i flags
-core_outcome Ldmxcsr i a b c flags steps = unperformed i flags
-core_outcome Stmxcsr i a b c flags steps = unperformed i flags
+core_outcome Ldmxcsr i a b c flags steps = loads_control b i flags
+core_outcome Stmxcsr i a b c flags steps = gives b i flags
 core_outcome Vzeroupper i a b c flags steps = unperformed i flags
 core_outcome Vzeroall i a b c flags steps = unperformed i flags
 

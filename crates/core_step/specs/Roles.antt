@@ -12,7 +12,7 @@ use Rattle.row_table.specs.declared.operations.GprOp.TheVariants.{Add, Or, Adc, 
 use Rattle.row_table.specs.declared.operations.BitOp.{BitOp}
 use Rattle.row_table.specs.declared.operations.BitOp.TheVariants.{Rol, Ror, Rcl, Rcr, Shl, Shr, Sar, Shld, Shrd, Bt, Bts, Btr, Btc, Popcnt, Bsf, Tzcnt, Bsr, Lzcnt, Andn, Blsr, Blsmsk, Blsi, Bzhi, Pext, Pdep, Bextr, Shlx, Sarx, Shrx, Rorx}
 use Rattle.core_step.specs.declared.kinds.Part.{Part}
-use Rattle.core_step.specs.declared.kinds.Part.TheVariants.{Absent, First, Second, Third, Bit, Address, Stack, Rax, Rcx, Rdx, Rbp, R11, Ah, UpperHalf}
+use Rattle.core_step.specs.declared.kinds.Part.TheVariants.{Absent, First, Second, Third, Bit, Address, Stack, Rax, Rcx, Rdx, Rbp, R11, Ah, UpperHalf, Mxcsr}
 use Rattle.core_step.specs.declared.kinds.Breadth.{Breadth}
 use Rattle.core_step.specs.declared.kinds.Breadth.TheVariants.{OfRow, OfStack, OfAddress}
 use Rattle.core_step.specs.declared.kinds.PartBreadth.{PartBreadth}
@@ -113,8 +113,8 @@ core_roles Xadd = updates First (from Second (also Second idle))
 core_roles Cmpxchg = updates First (from Second (beside Rax (also Rax idle)))
 core_roles Cmpxchg8b = updates First idle
 core_roles Xgetbv = idle
-core_roles Ldmxcsr = from First idle
-core_roles Stmxcsr = writes First idle
+core_roles Ldmxcsr = writes Mxcsr (from First idle)
+core_roles Stmxcsr = writes First (from Mxcsr idle)
 core_roles Clflush = from First idle
 core_roles Vzeroupper = idle
 core_roles Vzeroall = idle

@@ -1,8 +1,8 @@
 -- Numbers of an operand's size, and the parts of general registers.
 use Rattle.std.specs.Prelude.{ℕ, ◌+◌, ◌-◌, ◌*◌, ◌/◌, ◌%◌, ◌^◌, if◌then◌else◌}
 use Rattle.gpr_flags.specs.Numbers.{is_negative}
-use Rattle.core_step.specs.declared.kinds.Size.{Size}
-use Rattle.core_step.specs.declared.kinds.Size.TheVariants.{Byte, Word, Double, Quad}
+use Rattle.core_step.specs.declared.sizes.Size.{Size}
+use Rattle.core_step.specs.declared.sizes.Size.TheVariants.{Byte, Word, Double, Quad}
 
 abbrev pub bytes_in : Size → ℕ
 bytes_in Byte = 1

@@ -12,9 +12,9 @@ use Rattle.machine_state.specs.State.{State}
 use Rattle.core_step.specs.declared.acted.Acted.TheVariants.{Done}
 use Rattle.machine_state.specs.declared.kinds.Access.{Access}
 use Rattle.string_unit.specs.Strings.{place_bits, source_place, destination_place, string_accesses, string_gprs, string_flags, string_byte}
-use Rattle.core_step.specs.declared.kinds.Repeat.{Repeat}
-use Rattle.core_step.specs.declared.kinds.Repeat.TheVariants.{Once, WhileEqual, WhileUnequal}
-use Rattle.core_step.specs.declared.kinds.StringPlan.{StringPlan}
+use Rattle.core_step.specs.declared.strings.Repeat.{Repeat}
+use Rattle.core_step.specs.declared.strings.Repeat.TheVariants.{Once, WhileEqual, WhileUnequal}
+use Rattle.core_step.specs.declared.strings.StringPlan.{StringPlan}
 use Rattle.core_step.specs.Size.{bytes_in}
 use Rattle.core_step.specs.Address.{segment_base}
 use Rattle.core_step.specs.declared.kinds.StackUse.TheVariants.{Aside}

@@ -1,6 +1,6 @@
 //! The fetch of an instruction.
 ghost use Rattle.std.specs.Prelude.{◌≡◌, ◌<◌, ◌≤◌, ◌+◌, ◌-◌, ◌%◌, ℕ, take, length, None};
-ghost use Rattle.machine_state.specs.Memory.{Swap, bytes_at};
+ghost use Rattle.machine_state.specs.Memory.{page_size, Swap, bytes_at};
 ghost use Rattle.guest_pages.specs.Table.{blocked};
 ghost use Rattle.guest_pages.specs.Pages.{table_of, byte_of};
 ghost use Rattle.guest_pages.specs.Changes.{IsShown};
@@ -8,7 +8,7 @@ ghost use Rattle.core_step.specs.Fetch.{IsRun, stopped as stopped_by, outcome};
 
 use gpr_flags::Fault;
 use guest_pages::Pages;
-use machine_state::{Kind, Miss};
+use machine_state::{Kind, Miss, PAGE_SIZE};
 use row_table::Decoded;
 use x_decode::Seen;
 
@@ -32,7 +32,7 @@ pub struct Run {
 // Reads the executable bytes from an address up, as far as they can be had now. Each page is looked at once.
 pub(crate) fn read_run(pages: &Pages, addr: u64, into: &mut [u8]) -> Run
     requires some { 0 < length into.old }
-    requires two_pages { length into.old ≤ 4096 }
+    requires two_pages { length into.old ≤ page_size }
     ensures count { result.count ≤ length into.new }
     ensures run { IsRun (table_of pages.now) addr (length into.new) result.count result.stop }
     ensures bytes { (w : Swap) → take result.count into.new ≡ bytes_at (byte_of pages.now w) addr result.count }
@@ -61,18 +61,18 @@ fn count_on_page(addr: u64, count: usize) -> usize
     requires some { 0 < count }
     ensures some { 0 < result }
     ensures within { result ≤ count }
-    ensures one_page { addr % 4096 + result ≤ 4096 }
-    ensures rest { result < count → (addr + result) % 4096 ≡ 0 }
+    ensures one_page { addr % page_size + result ≤ page_size }
+    ensures rest { result < count → (addr + result) % page_size ≡ 0 }
 {
-    let page_left = 4096 - (addr % 4096) as usize;
+    let page_left = (PAGE_SIZE - addr % PAGE_SIZE) as usize;
     if count <= page_left { count } else { page_left }
 }
 
 // Reads the bytes behind the first `here`, which were read. They begin a page and lie on it.
 fn read_rest(pages: &Pages, addr: u64, into: &mut [u8], here: usize) -> Run
     requires more { here < length into.old }
-    requires page { (addr + here) % 4096 ≡ 0 }
-    requires one_page { length into.old - here ≤ 4096 }
+    requires page { (addr + here) % page_size ≡ 0 }
+    requires one_page { length into.old - here ≤ page_size }
     requires low { addr + here ≤ 0x800000000000 }
     requires ready { blocked (table_of pages.now) Kind.Execute addr here ≡ None }
     requires shown { IsShown pages.now addr here (take here into.old) }

@@ -1,20 +1,10 @@
 //! An instruction with its operands found, and what comes of it.
 use crate::acted::Acted;
+use crate::pair::PairPlan;
+use crate::sizes::Size;
+use crate::strings::StringPlan;
 use gpr_flags::Flags;
-use row_table::{Op, StringOp};
-
-/// The size of an operand (SDM volume 1, 4.1).
-#[derive(Clone, Copy, Debug, PartialEq, Eq)]
-pub enum Size {
-    /// 8 bits.
-    Byte,
-    /// 16 bits.
-    Word,
-    /// 32 bits.
-    Double,
-    /// 64 bits.
-    Quad,
-}
+use row_table::Op;
 
 /// Where an operation finds an operand: in its row's list, or at a place of its own.
 #[derive(Clone, Copy)]
@@ -37,6 +27,8 @@ pub enum Part {
     Ah,
     /// rDX, or AH of bytes.
     UpperHalf,
+    /// The control and status register of SSE.
+    Mxcsr,
 }
 
 /// How wide an operation's destination is.
@@ -104,6 +96,8 @@ pub enum Operand {
     Memory(u64),
     /// The number itself.
     Number(u64),
+    /// The control and status register of SSE (SDM volume 1, 10.2.3).
+    Mxcsr,
 }
 
 /// What an instruction does with its destination.
@@ -156,43 +150,6 @@ pub struct Instruction {
     pub usage: Use,
     /// The low four bits of the opcode.
     pub condition: u8,
-}
-
-/// How often an instruction on strings is performed, by its prefix (SDM volume 2, REP/REPE/REPZ/REPNE/REPNZ).
-#[derive(Clone, Copy, Debug, PartialEq, Eq)]
-pub enum Repeat {
-    /// Once: it has no prefix F2 or F3.
-    Once,
-    /// As often as rcx says, and CMPS and SCAS only while their operands are equal: F3.
-    WhileEqual,
-    /// As often as rcx says, and CMPS and SCAS only while their operands are unequal: F2.
-    WhileUnequal,
-}
-
-/// An instruction on strings, with its prefixes.
-#[derive(Clone, Copy)]
-pub struct StringPlan {
-    pub op: StringOp,
-    /// The size of the operands.
-    pub size: Size,
-    /// Whether the low 32 bits of rsi, rdi and rcx count, which prefix 67 says.
-    pub wrap32: bool,
-    /// The base of the segment of the operand at rsi.
-    pub base: u64,
-    pub repeat: Repeat,
-    /// Where the next instruction stands.
-    pub next: u64,
-}
-
-/// CMPXCHG8B or CMPXCHG16B.
-#[derive(Clone, Copy)]
-pub struct PairPlan {
-    /// The size of half of its operand.
-    pub half: Size,
-    /// Where its operand is.
-    pub addr: u64,
-    /// Where the next instruction stands.
-    pub next: u64,
 }
 
 /// An instruction with its operands found, by the way in which it is performed.

@@ -23,6 +23,7 @@ mod strings;
 mod tests;
 mod values;
 mod walking;
+mod ways;
 
 pub use acted::Acted;
 pub use fetch_cache::FetchCache;
@@ -32,3 +33,4 @@ pub use guest_pages::Pages;
 pub use machine::Machine;
 pub use machine_state::{Kind, Perms};
 pub use row_table::Decoded;
+pub use vec_file::VecFile;

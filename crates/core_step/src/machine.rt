@@ -11,7 +11,7 @@ ghost use Rattle.x_decode.specs.Seeing.{IsDecoded};
 ghost use Rattle.string_unit.specs.Strings.{string_accesses};
 ghost use Rattle.core_step.specs.Size.{bytes_in};
 ghost use Rattle.core_step.specs.Access.{accesses_of};
-ghost use Rattle.core_step.specs.Plain.{plain_effect, steps_after, gprs_left, byte_left};
+ghost use Rattle.core_step.specs.Plain.{plain_effect, steps_after, gprs_left, byte_left, extended_left};
 ghost use Rattle.core_step.specs.Strings.{source_of, destination_of, strings_access, iterated, strings_effect};
 ghost use Rattle.core_step.specs.Pair.{pair_bytes, pair_effect};
 ghost use Rattle.core_step.specs.Plan.{plan_accesses, effect_of};
@@ -25,25 +25,27 @@ ghost use Rattle.core_step.specs.Machine.{IsWhole, IsLeft, IsLocal, IsFramed, ac
 use crate::acted::Acted;
 use crate::fetch_cache::FetchCache;
 use crate::fetching::{Fetched, fetch_outcome, read_run};
-use crate::kinds::{Instruction, Outcome, PairPlan, Plan, StringPlan};
-use crate::pair::{exchange_memory, exchange_registers, is_equal, load};
+use crate::kinds::{Instruction, Outcome, Plan};
+use crate::pair::PairPlan;
 use crate::results::outcome;
-use crate::strings::{count, is_over, iterate_once, lower_count, rip_after};
-use crate::values::{move_stack, number_for, old_value, put, put_register, register_value, value};
+use crate::strings::StringPlan;
+use crate::values::{move_stack, number_for, put, put_register};
 use crate::walking::answer;
 use gpr_flags::{Fault, Flags, Gprs};
 use guest_pages::Pages;
 use machine_state::Kind;
 use row_table::{Decoded, row};
+use vec_file::VecFile;
 use x_decode::{LIMIT, decode};
 
-/// The processor with its memory: general registers, flags, instruction pointer, pages, the bases of the segments FS and
-/// GS, and the number of completed steps.
+/// The processor with its memory: general registers, flags, instruction pointer, extended state, pages, the bases of the
+/// segments FS and GS, and the number of completed steps.
 #[derive(Drop)]
 pub struct Machine {
     pub gprs: Gprs,
     pub flags: Flags,
     pub rip: u64,
+    pub vec: VecFile,
     pub pages: Pages,
     pub fs: u64,
     pub gs: u64,
@@ -154,7 +156,7 @@ impl Machine {
         requires room { self.old.steps < 2 ^ 64 - 1 }
         ensures { IsLeft self.old self.new result (strings_effect i.now) }
     {
-        if is_over(i, &self.gprs) {
+        if i.is_over(&self.gprs) {
             self.move_on(i.next);
             Acted::Done
         } else {
@@ -170,10 +172,10 @@ impl Machine {
         requires room { self.old.steps < 2 ^ 64 - 1 }
         ensures { IsLeft self.old self.new Acted.Done (iterated i.now) }
     {
-        let count = count(i, &self.gprs);
-        iterate_once(i, &mut self.gprs, &mut self.flags, &mut self.pages);
-        lower_count(i, count, &mut self.gprs);
-        let rip = rip_after(i, count, self.flags, self.rip);
+        let count = i.count(&self.gprs);
+        i.iterate_once(&mut self.gprs, &mut self.flags, &mut self.pages);
+        i.lower_count(count, &mut self.gprs);
+        let rip = i.rip_after(count, self.flags, self.rip);
         self.move_on(rip);
     }
 
@@ -183,10 +185,10 @@ impl Machine {
         requires room { self.old.steps < 2 ^ 64 - 1 }
         ensures { IsLeft self.old self.new result (pair_effect i.now) }
     {
-        let found = load(i, &self.pages);
-        let equal = is_equal(i.half, found, &self.gprs);
-        exchange_memory(i, found, &self.gprs, &mut self.pages);
-        exchange_registers(i, found, &mut self.gprs);
+        let found = i.load(&self.pages);
+        let equal = i.is_equal(found, &self.gprs);
+        i.exchange_memory(found, &self.gprs, &mut self.pages);
+        i.exchange_registers(found, &mut self.gprs);
         self.flags.zf = equal;
         self.move_on(i.next);
         Acted::Done
@@ -199,21 +201,22 @@ impl Machine {
         requires room { self.old.steps < 2 ^ 64 - 1 }
         ensures { IsLeft self.old self.new result (plain_effect i.now) }
     {
-        let a = old_value(i.usage, i.destination, i.size, &self.gprs, &self.pages);
-        let b = value(i.source, i.source_size, Kind::Read, &self.gprs, &self.pages);
-        let c = register_value(i.beside, i.beside_size, &self.gprs);
+        let a = self.old_value(i.usage, i.destination, i.size);
+        let b = self.value(i.source, i.source_size, Kind::Read);
+        let c = self.register_value(i.beside, i.beside_size);
         let outcome = outcome(i, a, b, c, self.flags, self.steps);
         self.leave(i, &outcome);
         outcome.acted
     }
 
     // Puts what comes of an instruction to its places.
-    #[tactic(auto, unfolding(crate::specs::Plain::gprs_left, crate::specs::Plain::byte_left))]
+    #[tactic(auto, unfolding(crate::specs::Plain::gprs_left, crate::specs::Plain::byte_left, crate::specs::Plain::extended_left))]
     fn leave(&mut self, i: &Instruction, o: &Outcome)
         requires fits { InstructionFits i.now }
         requires ready { walk (table_of self.old.pages) (accesses_of i.now) ≡ None }
         requires room { self.old.steps < 2 ^ 64 - 1 }
         ensures gprs { self.new.gprs ≡ gprs_left i.now o.now self.old.gprs }
+        ensures extended { self.new.vec ≡ extended_left i.now o.now self.old.vec }
         ensures byte { (w : Swap) → byte_of self.new.pages w ≡ byte_left i.now o.now (byte_of self.old.pages w) }
         ensures flags { self.new.flags ≡ o.now.flags }
         ensures rip { self.new.rip ≡ o.now.rip }
@@ -227,6 +230,7 @@ impl Machine {
         let number = number_for(i.usage, o.destination);
         put(
             &mut self.gprs,
+            &mut self.vec,
             &mut self.pages,
             i.destination,
             i.size,

@@ -6,7 +6,8 @@ ghost use Rattle.core_step.specs.Address.{address_of};
 ghost use Rattle.core_step.specs.Fits.{RegistersFit, OperandFits};
 
 use crate::addressing::{address, in_segment, is_memory, offset, opcode_reg, reg, rm, wrap};
-use crate::kinds::{Bases, Breadth, Operand, PartBreadth, Size, StackUse};
+use crate::kinds::{Bases, Breadth, Operand, PartBreadth, StackUse};
+use crate::sizes::Size;
 use gpr_flags::{Gprs, RAX, RBP, RCX, RDX, RSP, is_negative};
 use row_table::{CoreOp, Extent, Fields, Layout, Op, Row, Spot};
 

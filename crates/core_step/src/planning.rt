@@ -5,19 +5,22 @@ ghost use Rattle.core_step.specs.Operands.{rsp_for, instruction_by as instructio
 ghost use Rattle.core_step.specs.Fits.{RegistersFit, InstructionFits, PlanFits};
 ghost use Rattle.core_step.specs.Strings.{strings_of};
 ghost use Rattle.core_step.specs.Pair.{pair_of};
-ghost use Rattle.core_step.specs.Plan.{core_plan as core_plan_of, plan_of as plan_of_row};
+ghost use Rattle.core_step.specs.Plan.{plan_of};
 ghost use Rattle.core_step.specs.Machine.{state_of};
 
 use crate::addressing::{address, segment_base};
-use crate::kinds::{Bases, Instruction, PairPlan, Plan, Repeat, Roles, Size, StackUse, StringPlan};
+use crate::kinds::{Bases, Instruction, Plan, Roles, StackUse};
 use crate::machine::Machine;
 use crate::operands::{
     destination_size, operation, part_size, row_size, rsp_in_addresses, stack_place,
 };
-use crate::pair::half;
+use crate::pair::PairPlan;
 use crate::resolving::{operand_for, operand_if_any};
 use crate::roles::roles;
-use row_table::{CoreOp, Decoded, Layout, Op, Row, StringOp, layout};
+use crate::sizes::Size;
+use crate::strings::{Repeat, StringPlan};
+use crate::ways::Way;
+use row_table::{Decoded, Layout, Op, Row, StringOp, layout};
 
 impl Machine {
     // What addresses are made of.
@@ -34,16 +37,15 @@ impl Machine {
 
     // The instruction of a row and its fields.
     #[tactic(auto, unfolding(crate::specs::Operands::instruction_of))]
-    fn instruction(&self, row: &Row, d: &Decoded, len: u8) -> Instruction
+    fn instruction(&self, row: &Row, d: &Decoded, next: u64) -> Instruction
         requires { RegistersFit d.now.fields }
-        ensures is { (w : Swap) → result ≡ instruction_of row.now d.now len (state_of self.now w) }
+        ensures is { (w : Swap) → result ≡ instruction_of row.now d.now next (state_of self.now w) }
         ensures fits { InstructionFits result }
     {
         let layout = layout(row.operands);
         let op = operation(row, &layout, &d.fields);
         let roles = roles(op, &layout);
         let size = destination_size(roles.breadth, row, &d.fields);
-        let next = self.rip.wrapping_add(len as u64);
         self.instruction_by(op, &roles, &layout, size, d, next)
     }
 
@@ -132,7 +134,7 @@ impl Machine {
         requires { RegistersFit d.now.fields }
         ensures { (w : Swap) → result ≡ pair_of row.now d.now next (state_of self.now w) }
     {
-        let half = half(row);
+        let half = PairPlan::half_by(row);
         let bases = self.bases(StackUse::Aside, half, next);
         PairPlan {
             half,
@@ -141,89 +143,18 @@ impl Machine {
         }
     }
 
-    // The same of what the core does by itself.
-    #[tactic(auto, unfolding(crate::specs::Plan::core_plan))]
-    fn core_plan(&self, op: CoreOp, row: &Row, d: &Decoded, len: u8) -> Plan
-        requires { RegistersFit d.now.fields }
-        ensures is { (w : Swap) → result ≡ core_plan_of op row.now d.now len (state_of self.now w) }
-        ensures fits { PlanFits result }
-    {
-        match op {
-            CoreOp::Cmpxchg8b => {
-                let next = self.rip.wrapping_add(len as u64);
-                Plan::OnPair(self.on_pair(row, d, next))
-            }
-            CoreOp::Mov
-            | CoreOp::Movsxd
-            | CoreOp::Movzx
-            | CoreOp::Movsx
-            | CoreOp::Movbe
-            | CoreOp::Movnti
-            | CoreOp::Lea
-            | CoreOp::Xchg
-            | CoreOp::Push
-            | CoreOp::Pop
-            | CoreOp::Pushf
-            | CoreOp::Popf
-            | CoreOp::Leave
-            | CoreOp::Call
-            | CoreOp::Ret
-            | CoreOp::Jmp
-            | CoreOp::Jcc
-            | CoreOp::Loopne
-            | CoreOp::Loope
-            | CoreOp::Loop
-            | CoreOp::Jrcxz
-            | CoreOp::Cmovcc
-            | CoreOp::Setcc
-            | CoreOp::Cbw
-            | CoreOp::Cwd
-            | CoreOp::Bswap
-            | CoreOp::Cmc
-            | CoreOp::Clc
-            | CoreOp::Stc
-            | CoreOp::Cld
-            | CoreOp::Std
-            | CoreOp::Sahf
-            | CoreOp::Lahf
-            | CoreOp::Int3
-            | CoreOp::Hlt
-            | CoreOp::Syscall
-            | CoreOp::Rdtsc
-            | CoreOp::Cpuid
-            | CoreOp::Nop
-            | CoreOp::Xadd
-            | CoreOp::Cmpxchg
-            | CoreOp::Xgetbv
-            | CoreOp::Ldmxcsr
-            | CoreOp::Stmxcsr
-            | CoreOp::Clflush
-            | CoreOp::Vzeroupper
-            | CoreOp::Vzeroall => Plan::Plain(self.instruction(row, d, len)),
-        }
-    }
-
-    // The instruction of a row and its fields, by the row's operation.
+    // The instruction of a row and its fields, by the way in which it is performed.
     #[tactic(auto, unfolding(crate::specs::Plan::plan_of))]
     pub(crate) fn plan_for(&self, row: &Row, d: &Decoded, len: u8) -> Plan
         requires { RegistersFit d.now.fields }
-        ensures is { (w : Swap) → result ≡ plan_of_row row.now d.now len (state_of self.now w) }
+        ensures is { (w : Swap) → result ≡ plan_of row.now d.now len (state_of self.now w) }
         ensures fits { PlanFits result }
     {
         let next = self.rip.wrapping_add(len as u64);
-        match row.op {
-            Op::String(op) => Plan::OnStrings(self.on_strings(op, row, d, next)),
-            Op::Core(op) => self.core_plan(op, row, d, len),
-            Op::Gpr(_)
-            | Op::Bit(_)
-            | Op::Lane(_)
-            | Op::Cross(_)
-            | Op::Width(_)
-            | Op::Mac(_)
-            | Op::Mask(_)
-            | Op::Vector(_)
-            | Op::Gather(_)
-            | Op::Xsave(_) => Plan::Plain(self.instruction(row, d, len)),
+        match Way::of(row.op) {
+            Way::Numbers => Plan::Plain(self.instruction(row, d, next)),
+            Way::Strings(op) => Plan::OnStrings(self.on_strings(op, row, d, next)),
+            Way::Pair => Plan::OnPair(self.on_pair(row, d, next)),
         }
     }
 }

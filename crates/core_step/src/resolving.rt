@@ -4,8 +4,9 @@ ghost use Rattle.core_step.specs.Operands.{operand_for as operand_for_part};
 ghost use Rattle.core_step.specs.Fits.{RegistersFit, OperandFits};
 
 use crate::addressing::offset;
-use crate::kinds::{Bases, Operand, Part, Size};
+use crate::kinds::{Bases, Operand, Part};
 use crate::operands::{bit_operand, operand, upper_half};
+use crate::sizes::Size;
 use gpr_flags::{Gprs, R11, RAX, RBP, RCX, RDX};
 use row_table::{Decoded, Layout};
 
@@ -40,6 +41,7 @@ pub(crate) fn operand_for(
         Part::R11 => Operand::Register(R11),
         Part::Ah => Operand::HighByte(RAX),
         Part::UpperHalf => upper_half(size),
+        Part::Mxcsr => Operand::Mxcsr,
     }
 }
 

@@ -4,11 +4,12 @@ ghost use Rattle.std.specs.Prelude.{IsTrue, ◌*◌};
 ghost use Rattle.gpr_units.specs.Alu.{is_alu};
 ghost use Rattle.core_step.specs.Size.{bits_in, bytes_in};
 ghost use Rattle.core_step.specs.Fits.{OutcomeFits};
-ghost use Rattle.core_step.specs.Result.{reversed as reversed_to, sign_bits as sign_bits_of, counted_down as counted_down_to, passes as passes_of, gives as gives_of, jumps as jumps_of, loops as loops_of, pushes as pushes_of, pops as pops_of, exchanges_numbers, calls as calls_of, returns_to, calls_system as calls_system_of, counts as counts_of, breaks as breaks_of, exchanges_sum as exchanges_sum_of, compares as compares_of, multiplies as multiplies_of, multiplies_freely as multiplies_freely_of, computes as computes_of, picks as picks_of, divides as divides_of, shifts as shifts_of, scans as scans_of, core_outcome as core_outcome_of, gpr_outcome as gpr_outcome_of, bit_outcome as bit_outcome_of, outcome_of, faults as faults_of};
+ghost use Rattle.core_step.specs.Result.{reversed as reversed_to, sign_bits as sign_bits_of, counted_down as counted_down_to, passes as passes_of, gives as gives_of, jumps as jumps_of, loops as loops_of, pushes as pushes_of, pops as pops_of, exchanges_numbers, calls as calls_of, returns_to, calls_system as calls_system_of, counts as counts_of, breaks as breaks_of, loads_control as loads_control_of, exchanges_sum as exchanges_sum_of, compares as compares_of, multiplies as multiplies_of, multiplies_freely as multiplies_freely_of, computes as computes_of, picks as picks_of, divides as divides_of, shifts as shifts_of, scans as scans_of, core_outcome as core_outcome_of, gpr_outcome as gpr_outcome_of, bit_outcome as bit_outcome_of, outcome_of, faults as faults_of};
 
 use crate::acted::Acted;
 use crate::flags::with_low;
-use crate::kinds::{Instruction, Outcome, Size};
+use crate::kinds::{Instruction, Outcome};
+use crate::sizes::Size;
 use bit_units::{bits, shift};
 use gpr_flags::{Fault, Flags, is_negative};
 use gpr_units::{alu, divide, multiply};
@@ -203,6 +204,18 @@ fn breaks(i: &Instruction, f: Flags) -> Outcome
     }
 }
 
+/// A number goes to MXCSR, unless it has a reserved bit.
+fn loads_control(number: u64, i: &Instruction, f: Flags) -> Outcome
+    ensures outcome { result ≡ loads_control_of number i.now f }
+    ensures fits { OutcomeFits result f }
+{
+    if number < 0x1_0000 {
+        gives(number, i, f)
+    } else {
+        faults(Fault::General, i, f)
+    }
+}
+
 /// What the core does by itself.
 #[tactic(auto, unfolding(crate::specs::Result::core_outcome))]
 fn core_outcome(
@@ -255,11 +268,11 @@ fn core_outcome(
         CoreOp::Nop | CoreOp::Clflush => passes(i, f),
         CoreOp::Xadd => exchanges_sum(i, a, b, f),
         CoreOp::Cmpxchg => compares(i, a, b, c, f),
+        CoreOp::Ldmxcsr => loads_control(b, i, f),
+        CoreOp::Stmxcsr => gives(b, i, f),
         CoreOp::Cpuid
         | CoreOp::Cmpxchg8b
         | CoreOp::Xgetbv
-        | CoreOp::Ldmxcsr
-        | CoreOp::Stmxcsr
         | CoreOp::Vzeroupper
         | CoreOp::Vzeroall => faults(Fault::Undefined, i, f),
     }

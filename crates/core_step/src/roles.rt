@@ -91,7 +91,7 @@ fn core_roles(op: CoreOp) -> Roles
             stack: StackUse::Pops,
             ..IDLE
         },
-        CoreOp::Jmp | CoreOp::Jcc | CoreOp::Ldmxcsr | CoreOp::Clflush => Roles {
+        CoreOp::Jmp | CoreOp::Jcc | CoreOp::Clflush => Roles {
             source: Part::First,
             ..IDLE
         },
@@ -117,8 +117,18 @@ fn core_roles(op: CoreOp) -> Roles
             source: Part::Second,
             ..IDLE
         },
-        CoreOp::Setcc | CoreOp::Stmxcsr => Roles {
+        CoreOp::Setcc => Roles {
             destination: Part::First,
+            ..IDLE
+        },
+        CoreOp::Ldmxcsr => Roles {
+            destination: Part::Mxcsr,
+            source: Part::First,
+            ..IDLE
+        },
+        CoreOp::Stmxcsr => Roles {
+            destination: Part::First,
+            source: Part::Mxcsr,
             ..IDLE
         },
         CoreOp::Cbw => Roles {

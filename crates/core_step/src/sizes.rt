@@ -2,8 +2,20 @@
 ghost use Rattle.std.specs.Prelude.{◌≡◌, ◌≤◌, ◌<◌, ◌^◌};
 ghost use Rattle.core_step.specs.Size.{bytes_in, bits_in, cut as cut_to, sign_extended, half_of, with_high_byte as with_high};
 
-use crate::kinds::Size;
 use gpr_flags::{is_negative, low};
+
+/// The size of an operand (SDM volume 1, 4.1).
+#[derive(Clone, Copy, Debug, PartialEq, Eq)]
+pub enum Size {
+    /// 8 bits.
+    Byte,
+    /// 16 bits.
+    Word,
+    /// 32 bits.
+    Double,
+    /// 64 bits.
+    Quad,
+}
 
 impl Size {
     /// How many bytes it has.

@@ -1,7 +1,7 @@
 mod processor;
 
-use crate::{Acted, Fault, FetchCache, Fetched, Flags, Gprs, Machine, Pages, Perms};
-use machine_state::Kind;
+use crate::{Acted, Fault, FetchCache, Fetched, Flags, Gprs, Machine, Pages, Perms, VecFile};
+use machine_state::{Kind, PAGE_SIZE};
 use processor::{Row, State};
 use std::alloc::Global;
 use std::process::Abort;
@@ -10,6 +10,8 @@ use std::test::Fail;
 const CODE: u64 = 0x40_0000;
 
 const DATA: u64 = 0x50_0000;
+
+const PAGE: usize = PAGE_SIZE as usize;
 
 // The registers at the start of each row.
 const REGISTERS: [u64; 16] = [
@@ -32,9 +34,9 @@ const REGISTERS: [u64; 16] = [
 ];
 
 // The data page at the start of each row.
-fn data() -> [u8; 4096] {
-    let mut page = [0; 4096];
-    for k in 0..4096 {
+fn data() -> [u8; PAGE] {
+    let mut page = [0; PAGE];
+    for k in 0..PAGE {
         page[k] = ((k * 7 + 1) % 256) as u8;
     }
     page
@@ -55,6 +57,7 @@ fn machine(rt: &impl Abort, alloc: Global, code: &[u8]) -> Result<Machine, Fail>
         gprs,
         flags: Flags::from_word(1),
         rip: CODE + 0x100,
+        vec: VecFile::new(),
         pages,
         fs: 0,
         gs: 0,
@@ -71,10 +74,10 @@ fn step(rt: &impl Abort, machine: &mut Machine) -> Acted {
     }
 }
 
-fn put_bytes(rt: &impl Abort, page: &mut [u8; 4096], addr: u64, bytes: &[u8]) {
+fn put_bytes(rt: &impl Abort, page: &mut [u8; PAGE], addr: u64, bytes: &[u8]) {
     assert!(rt; addr >= DATA && addr < DATA + 0x1000);
     let at = (addr - DATA) as usize;
-    assert!(rt; bytes.len() <= 4096 - at);
+    assert!(rt; bytes.len() <= PAGE - at);
     page[at..at + bytes.len()].copy_from_slice(bytes);
 }
 
@@ -91,7 +94,7 @@ fn begin(rt: &impl Abort, m: &mut Machine, state: &State) {
 }
 
 // The same for the registers and the data page that are expected.
-fn change(rt: &impl Abort, registers: &mut [u64; 16], page: &mut [u8; 4096], state: &State) {
+fn change(rt: &impl Abort, registers: &mut [u64; 16], page: &mut [u8; PAGE], state: &State) {
     for (n, value) in state.0 {
         assert!(rt; *n < 16);
         registers[*n as usize] = *value;
@@ -117,7 +120,7 @@ fn compare(rt: &impl Abort, m: &Machine, row: &Row) {
     }
     assert_eq!(rt; m.flags.word(), row.2.1, "flags at {:?}", row.0);
     assert_eq!(rt; m.rip, row.3, "at {:?}", row.0);
-    let mut left = [0; 4096];
+    let mut left = [0; PAGE];
     assert_eq!(rt; m.pages.read(DATA, &mut left, Kind::Read), Ok(()));
     assert!(rt; left == page, "memory at {:?}", row.0);
 }
@@ -204,6 +207,99 @@ fn strings_are_those_of_a_processor(rt: HostRuntime) -> Result<(), Fail> {
 fn pairs_are_those_of_a_processor(rt: HostRuntime) -> Result<(), Fail> {
     for row in processor::pair_rows() {
         check_row(&rt, rt.alloc(), row)?;
+    }
+    Ok(())
+}
+
+#[test]
+fn operations_of_vex_are_those_of_a_processor(rt: HostRuntime) -> Result<(), Fail> {
+    for row in processor::vex_rows() {
+        check_row(&rt, rt.alloc(), row)?;
+    }
+    Ok(())
+}
+
+#[test]
+fn moves_of_mxcsr_are_those_of_a_processor(rt: HostRuntime) -> Result<(), Fail> {
+    for (before, row, after) in processor::mxcsr_rows() {
+        let mut m = machine(&rt, rt.alloc(), row.0)?;
+        begin(&rt, &mut m, &row.1);
+        assert!(rt; *before < 0x1_0000);
+        m.vec.set_mxcsr(*before);
+        assert_eq!(rt; step(&rt, &mut m), Acted::Done, "at {:?}", row.0);
+        compare(&rt, &m, row);
+        assert_eq!(rt; m.vec.mxcsr(), *after, "MXCSR at {:?}", row.0);
+    }
+    Ok(())
+}
+
+// LDMXCSR [rbx] and STMXCSR [rbx + 4] of both classes, and with a W that doesn't count.
+#[rattlefmt::skip]
+static CONTROL: [(&[u8], &[u8]); 4] = [
+    (&[0x0F, 0xAE, 0x13], &[0x0F, 0xAE, 0x5B, 4]),
+    (&[0x48, 0x0F, 0xAE, 0x13], &[0x48, 0x0F, 0xAE, 0x5B, 4]),
+    (&[0xC5, 0xF8, 0xAE, 0x13], &[0xC5, 0xF8, 0xAE, 0x5B, 4]),
+    (&[0xC4, 0xE1, 0xF8, 0xAE, 0x13], &[0xC4, 0xE1, 0xF8, 0xAE, 0x5B, 4]),
+];
+
+fn control_codes() -> &'static [(&'static [u8], &'static [u8])] {
+    &CONTROL
+}
+
+// A machine at LDMXCSR with this number at rbx.
+fn before_control(
+    rt: &impl Abort,
+    alloc: Global,
+    code: &[u8],
+    number: u32,
+) -> Result<Machine, Fail> {
+    let mut m = machine(rt, alloc, code)?;
+    assert_eq!(rt; m.pages.write(DATA + 0x100, &number.to_le_bytes()), Ok(()));
+    Ok(m)
+}
+
+// Sixteen bits are loaded, and 32 stored.
+#[test]
+fn mxcsr_is_loaded_and_stored(rt: HostRuntime) -> Result<(), Fail> {
+    for (load, store) in control_codes() {
+        for number in [0xFFFF, 0x8001, 0x1F80, 0] {
+            let mut m = before_control(&rt, rt.alloc(), load, number)?;
+            assert_eq!(rt; m.vec.mxcsr(), 0x1F80);
+            assert_eq!(rt; step(&rt, &mut m), Acted::Done, "at {load:?}");
+            assert_eq!(rt; m.vec.mxcsr(), number, "at {load:?}");
+            m.rip = CODE + 0x200;
+            assert_eq!(rt; m.pages.write(CODE + 0x200, store), Ok(()));
+            assert_eq!(rt; step(&rt, &mut m), Acted::Done, "at {store:?}");
+            let mut loaded = [0; 4];
+            let mut stored = [0; 4];
+            let mut behind = [0; 4];
+            assert_eq!(rt; m.pages.read(DATA + 0x100, &mut loaded, Kind::Read), Ok(()));
+            assert_eq!(rt; m.pages.read(DATA + 0x104, &mut stored, Kind::Read), Ok(()));
+            assert_eq!(rt; m.pages.read(DATA + 0x108, &mut behind, Kind::Read), Ok(()));
+            assert_eq!(rt; loaded, number.to_le_bytes());
+            assert_eq!(rt; stored, number.to_le_bytes(), "at {store:?}");
+            assert_eq!(rt; behind, [0x39, 0x40, 0x47, 0x4E], "at {store:?}");
+            assert_eq!(rt; m.flags.word(), 0x203);
+        }
+    }
+    Ok(())
+}
+
+// A bit from 16 up is reserved.
+#[test]
+fn reserved_bits_of_mxcsr_are_a_fault(rt: HostRuntime) -> Result<(), Fail> {
+    for (load, _) in control_codes() {
+        for number in [0x1_0000, 0x8000_1F80, 0xFFFF_FFFF] {
+            let mut m = before_control(&rt, rt.alloc(), load, number)?;
+            assert_eq!(rt;
+                step(&rt, &mut m),
+                Acted::Trap(Fault::General),
+                "at {load:?}"
+            );
+            assert_eq!(rt; m.vec.mxcsr(), 0x1F80);
+            assert_eq!(rt; m.rip, CODE + 0x100);
+            assert_eq!(rt; m.steps, 0);
+        }
     }
     Ok(())
 }
@@ -398,13 +494,15 @@ fn a_fetch_faults_at_the_first_byte_that_is_not_allowed(rt: HostRuntime) -> Resu
 #[test]
 #[rattlefmt::skip]
 fn the_last_segment_prefix_gives_the_base(rt: HostRuntime) -> Result<(), Fail> {
-    let rows: [(&[u8], u64, u64, u64); 6] = [
+    let rows: [(&[u8], u64, u64, u64); 7] = [
         (&[0x64, 0x8B, 0x44, 0x24, 8], 0x50_00E8, 0, 0x160F_0801),
         (&[0x64, 0x65, 0x8B, 0x44, 0x24, 8], 0, 0x50_00F8, 0x867F_7871),
         (&[0x65, 0x64, 0x2E, 0x8B, 0x44, 0x24, 8], 0x50_00E8, 0, 0x160F_0801),
         (&[0x64, 0x8B, 0x84, 0x24, 0, 1, 0x50, 0], 0xFFFF_FFFF_FFFF_FFF0, 0, 0x160F_0801),
         (&[0x65, 0x67, 0x8B, 0x44, 0x24, 0xEF], 0, 0xFFFF_FFFF_0050_0101, 0x160F_0801),
         (&[0x64, 0x8D, 0x44, 0x24, 8], 0x7000, 0, 0x18),
+        // rorx eax, gs:[rsp + 8], 0
+        (&[0x65, 0xC4, 0xE3, 0x7B, 0xF0, 0x44, 0x24, 8, 0], 0, 0x50_00F8, 0x867F_7871),
     ];
     for (code, fs, gs, eax) in rows {
         let mut m = machine(&rt, rt.alloc(), code)?;

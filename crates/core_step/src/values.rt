@@ -8,54 +8,63 @@ ghost use Rattle.guest_pages.specs.Changes.{KeepsTable, IsWritten};
 ghost use Rattle.core_step.specs.Size.{bytes_in, bits_in};
 ghost use Rattle.core_step.specs.Fits.{OperandFits};
 ghost use Rattle.core_step.specs.Access.{operand_access, kind_of};
-ghost use Rattle.core_step.specs.Plain.{register_value as register_value_of, value_of, old_value as old_value_of, number_for as number_for_use, gprs_with, gprs_after, gprs_stacked, byte_after};
+ghost use Rattle.core_step.specs.Plain.{register_value as register_value_of, value_of, old_value as old_value_of, number_for as number_for_use, gprs_with, gprs_after, gprs_stacked, byte_after, extended_after};
+ghost use Rattle.core_step.specs.Machine.{processor_in};
 
-use crate::kinds::{Operand, Size, Use};
-use crate::sizes::with_high_byte;
+use crate::kinds::{Operand, Use};
+use crate::machine::Machine;
+use crate::sizes::{Size, with_high_byte};
 use gpr_flags::{Gprs, RSP};
 use guest_pages::Pages;
 use machine_state::Kind;
+use vec_file::VecFile;
 
-/// The number of an operand that isn't in memory.
-pub(crate) fn register_value(operand: Operand, size: Size, gprs: &Gprs) -> u64
-    requires { OperandFits operand }
-    ensures value { result ≡ register_value_of operand size gprs.now }
-    ensures fits { result < 2 ^ bits_in size }
-{
-    match operand {
-        Operand::Register(number) => size.cut(gprs.get(number)),
-        Operand::HighByte(number) => size.cut(gprs.get(number) >> 8),
-        Operand::Number(number) => size.cut(number),
-        Operand::Absent | Operand::Memory(_) => 0,
+impl Machine {
+    /// The number of an operand that isn't in memory.
+    pub(crate) fn register_value(&self, operand: Operand, size: Size) -> u64
+        requires { OperandFits operand }
+        ensures value { result ≡ register_value_of operand size (processor_in self.now) }
+        ensures fits { result < 2 ^ bits_in size }
+    {
+        match operand {
+            Operand::Register(number) => size.cut(self.gprs.get(number)),
+            Operand::HighByte(number) => size.cut(self.gprs.get(number) >> 8),
+            Operand::Number(number) => size.cut(number),
+            Operand::Mxcsr => size.cut(u64::from(self.vec.mxcsr())),
+            Operand::Absent | Operand::Memory(_) => 0,
+        }
     }
-}
 
-/// The number of an operand that can be read.
-#[tactic(auto, unfolding(crate::specs::Plain::value_of))]
-pub(crate) fn value(operand: Operand, size: Size, kind: Kind, gprs: &Gprs, pages: &Pages) -> u64
-    requires operand { OperandFits operand }
-    requires ready { walk (table_of pages.now) (operand_access kind operand size) ≡ None }
-    ensures value { (w : Swap) → result ≡ value_of operand size gprs.now (byte_of pages.now w) }
-    ensures fits { result < 2 ^ bits_in size }
-{
-    match operand {
-        Operand::Memory(addr) => pages.load(addr, size.bytes(), kind),
-        Operand::Absent | Operand::Register(_) | Operand::HighByte(_) | Operand::Number(_) =>
-            register_value(operand, size, gprs),
+    /// The number of an operand that can be read.
+    #[tactic(auto, unfolding(crate::specs::Plain::value_of))]
+    pub(crate) fn value(&self, operand: Operand, size: Size, kind: Kind) -> u64
+        requires operand { OperandFits operand }
+        requires ready { walk (table_of self.now.pages) (operand_access kind operand size) ≡ None }
+        ensures value { (w : Swap) → result ≡ value_of operand size (processor_in self.now) (byte_of self.now.pages w) }
+        ensures fits { result < 2 ^ bits_in size }
+    {
+        match operand {
+            Operand::Memory(addr) => self.pages.load(addr, size.bytes(), kind),
+            Operand::Absent
+            | Operand::Register(_)
+            | Operand::HighByte(_)
+            | Operand::Number(_)
+            | Operand::Mxcsr => self.register_value(operand, size),
+        }
     }
-}
 
-/// The number that stands in a destination; where it is only written, that is not looked at.
-pub(crate) fn old_value(usage: Use, operand: Operand, size: Size, gprs: &Gprs, pages: &Pages) -> u64
-    requires operand { OperandFits operand }
-    requires ready { walk (table_of pages.now) (operand_access (kind_of usage) operand size) ≡ None }
-    ensures value { (w : Swap) → result ≡ old_value_of usage operand size gprs.now (byte_of pages.now w) }
-    ensures fits { result < 2 ^ bits_in size }
-{
-    match usage {
-        Use::Read => value(operand, size, Kind::Read, gprs, pages),
-        Use::Update => value(operand, size, Kind::Write, gprs, pages),
-        Use::Write => 0,
+    /// The number that stands in a destination; where it is only written, that is not looked at.
+    pub(crate) fn old_value(&self, usage: Use, operand: Operand, size: Size) -> u64
+        requires operand { OperandFits operand }
+        requires ready { walk (table_of self.now.pages) (operand_access (kind_of usage) operand size) ≡ None }
+        ensures value { (w : Swap) → result ≡ old_value_of usage operand size (processor_in self.now) (byte_of self.now.pages w) }
+        ensures fits { result < 2 ^ bits_in size }
+    {
+        match usage {
+            Use::Read => self.value(operand, size, Kind::Read),
+            Use::Update => self.value(operand, size, Kind::Write),
+            Use::Write => 0,
+        }
     }
 }
 
@@ -80,7 +89,7 @@ pub(crate) fn set_register(gprs: &mut Gprs, operand: Operand, size: Size, number
             let old = gprs.get(to);
             gprs.set(to, with_high_byte(old, number));
         }
-        Operand::Absent | Operand::Memory(_) | Operand::Number(_) => {}
+        Operand::Absent | Operand::Memory(_) | Operand::Number(_) | Operand::Mxcsr => {}
     }
 }
 
@@ -106,9 +115,19 @@ fn put_memory(pages: &mut Pages, operand: Operand, size: Size, number: Option<u6
     }
 }
 
+/// Puts a number, where there is one, into MXCSR, if that is the operand.
+fn put_extended(vec: &mut VecFile, operand: Operand, number: Option<u64>)
+    ensures { vec.new ≡ extended_after operand number vec.old }
+{
+    if let (Operand::Mxcsr, Some(number)) = (operand, number) {
+        vec.set_mxcsr((number % 0x1_0000) as u32);
+    }
+}
+
 /// Puts a number, where there is one, into an operand that can be written.
 pub(crate) fn put(
     gprs: &mut Gprs,
+    vec: &mut VecFile,
     pages: &mut Pages,
     operand: Operand,
     size: Size,
@@ -117,11 +136,13 @@ pub(crate) fn put(
     requires operand { OperandFits operand }
     requires ready { number ≢ None → walk (table_of pages.old) (operand_access Kind.Write operand size) ≡ None }
     ensures gprs { gprs.new ≡ gprs_after operand size number gprs.old }
+    ensures extended { vec.new ≡ extended_after operand number vec.old }
     ensures byte { (w : Swap) → byte_of pages.new w ≡ byte_after operand size number (byte_of pages.old w) }
     ensures table { KeepsTable pages.old pages.new }
     ensures unwritten { number ≡ None → pages.new ≡ pages.old }
 {
     put_register(gprs, operand, size, number);
+    put_extended(vec, operand, number);
     put_memory(pages, operand, size, number);
 }
 

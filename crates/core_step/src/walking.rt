@@ -11,10 +11,11 @@ ghost use Rattle.core_step.specs.Plan.{plan_accesses};
 ghost use Rattle.core_step.specs.Machine.{state_of};
 
 use crate::acted::Acted;
-use crate::kinds::{Instruction, Operand, PairPlan, Plan, Size, StringPlan, Use};
+use crate::kinds::{Instruction, Operand, Plan, Use};
 use crate::machine::Machine;
-use crate::pair::pair_len;
-use crate::strings::is_over;
+use crate::pair::PairPlan;
+use crate::sizes::Size;
+use crate::strings::StringPlan;
 use arrayvec::ArrayVec;
 use gpr_flags::{Fault, Gprs};
 use machine_state::{Access, Kind, Miss, Stop};
@@ -61,7 +62,7 @@ fn operand_accesses(i: &Instruction) -> ArrayVec<Access, 2>
 fn string_accesses(i: &StringPlan, gprs: &Gprs) -> ArrayVec<Access, 2>
     ensures { result.items ≡ strings_access i.now gprs.now }
 {
-    if is_over(i, gprs) {
+    if i.is_over(gprs) {
         return ArrayVec::new();
     }
     let source = source_place(i.wrap32, i.base, gprs);
@@ -77,7 +78,7 @@ fn pair_accesses(i: &PairPlan) -> ArrayVec<Access, 2>
     list.push(Access {
         kind: Kind::Write,
         addr: i.addr,
-        len: pair_len(i) as u64,
+        len: i.bytes() as u64,
     });
     list
 }

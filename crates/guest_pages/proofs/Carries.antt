@@ -1,6 +1,7 @@
 -- Lemmas on what a chain of accesses keeps of the pages.
 use Rattle.std.proofs.Common.{◌≡◌, ℕ, ◌+◌, ◌/◌, ◌<◌, ◌≤◌, List, length, true, false, ◌⊎◌, inl, inr, Some, ◌&&◌, nat_lt, nat_le, refl, ◌∙◌, sym, ⊎_elim, arith}
 use Rattle.std.proofs.lemmas.Bool.{cases_lt, cases_Bool, false≢true}
+use Rattle.machine_state.specs.Memory.{page_size}
 use Rattle.machine_state.proofs.MemoryLemmas.{below_write, above_write}
 use Rattle.guest_pages.specs.declared.entry.Mark.TheVariants.{Written}
 use Rattle.guest_pages.specs.Pages.{PagesValue, mark_of}
@@ -8,7 +9,7 @@ use Rattle.guest_pages.specs.Changes.{KeepsPage, KeepsTable, IsWritten, touches}
 use Rattle.guest_pages.proofs.Marks.{touch_there}
 
 -- a write has no byte on a page that it doesn't touch
-off_page : (addr len page at : ℕ) → touches addr len page ≡ false → at / 4096 ≡ page → (nat_le addr at && nat_lt at (addr + len)) ≡ false
+off_page : (addr len page at : ℕ) → touches addr len page ≡ false → at / page_size ≡ page → (nat_le addr at && nat_lt at (addr + len)) ≡ false
 off_page addr len page at off on = ⊎_elim
     (λ (low : at < addr). below_write addr at (addr + len) low)
     (λ (low : addr ≤ at). ⊎_elim

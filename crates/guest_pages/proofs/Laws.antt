@@ -4,7 +4,7 @@ use Rattle.std.specs.Option.{option_map}
 use Rattle.std.specs.List.{list_any, IsDistinct, AllByRecursion}
 use Rattle.std.proofs.lemmas.List.Sums.{count_by-le-length, sum_by-cons}
 use Rattle.std.proofs.lemmas.Bool.{eq-eqb, false≢true}
-use Rattle.machine_state.specs.Memory.{Swap}
+use Rattle.machine_state.specs.Memory.{page_size, Swap}
 use Rattle.guest_pages.specs.declared.entry.Entry.{Entry}
 use Rattle.guest_pages.specs.Entry.{is_in_frame, is_resident}
 use Rattle.guest_pages.specs.Table.{Mapped, in_frame}
@@ -114,5 +114,5 @@ pub pages_memory : (pages : PagesValue) → AreSound pages.slots → FitMemory p
 unfolding table_of byte_of
 pages_memory pages sound = record {
   low = λ page some. low_case pages page sound (table_of pages page) refl some;
-  zeros = λ swap addr none. zero_case swap (seek 0 pages.slots (addr / 4096)) (addr % 4096) none;
+  zeros = λ swap addr none. zero_case swap (seek 0 pages.slots (addr / page_size)) (addr % page_size) none;
 }

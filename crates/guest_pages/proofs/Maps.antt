@@ -2,6 +2,7 @@
 use Rattle.std.proofs.Common.{◌≡◌, ℕ, ◌+◌, ◌/◌, ◌%◌, ◌<◌, ◌≤◌, List, Bool, true, false, cond, Option, Some, None, length, get_or, ◌==◌, refl, sym, ap, ◌∙◌, ⊎_elim, arith, ◌≢◌, is_some, count_by, nat_lt, ◌||◌, MatchOption}
 use Rattle.std.proofs.lemmas.List.{get_or_past, length-set}
 use Rattle.std.proofs.lemmas.Bool.{cases_eq, cases_lt, eq-eqb, false≢true, lt-ltb, le-ltb}
+use Rattle.machine_state.specs.Memory.{page_size}
 use Rattle.guest_pages.specs.declared.entry.Entry.{Entry}
 use Rattle.guest_pages.specs.declared.entry.Place.{Place}
 use Rattle.guest_pages.specs.declared.entry.Place.TheVariants.{Resident, Zeros, Swapped}
@@ -103,7 +104,7 @@ module _ (pages : PagesValue) (k : ℕ) (entry : Entry) (can : CanTake pages.slo
     slot_within = rw (length-set pages.slots k (let o : Option Entry = Some entry in o)) can.within;
     slot_apart = λ other mapped apart h. apart_from other mapped apart h;
     byte = λ swap i at.
-        (byte_taken pages k entry can swap at ∙ zero_case (at / 4096 == entry.page) _ _ (zeros_byte entry.place (swap k) (at % 4096) zeros)) i;
+        (byte_taken pages k entry can swap at ∙ zero_case (at / page_size == entry.page) _ _ (zeros_byte entry.place (swap k) (at % page_size) zeros)) i;
     marks = mark_taken pages k entry can ∙ ap (with_mark (mark_of pages) entry.page) (zeros_mark entry.place zeros);
     count = count_is (get_or pages.slots k None) refl;
   }
@@ -165,7 +166,7 @@ blank_there pages frames most blank frames_are pages_are = record {
   frames_are = frames_are;
   pages_are = pages_are;
   table = λ page. table_none pages page (blank_lacks pages.slots blank page);
-  byte = λ swap addr. rw (seek_none 0 pages.slots (addr / 4096) (blank_lacks pages.slots blank (addr / 4096))) refl;
+  byte = λ swap addr. rw (seek_none 0 pages.slots (addr / page_size) (blank_lacks pages.slots blank (addr / page_size))) refl;
   marks = λ page. mark_none pages page (blank_lacks pages.slots blank page);
   count = count_by_none is_some pages.slots None (λ i h. rw (blank i) refl);
 }

@@ -2,6 +2,7 @@
 use Rattle.std.proofs.Common.{◌≡◌, ◌≢◌, ℕ, ◌+◌, ◌-◌, ◌/◌, ◌%◌, ◌<◌, ◌≤◌, Bool, true, false, cond, Option, Some, ◌==◌, ◌&&◌, ◌||◌, nat_lt, nat_le, refl, sym, ap, ◌∙◌, ⊎_elim, arith, add-zero}
 use Rattle.std.proofs.lemmas.Bool.{lt-ltb, le-ltb, le-leb, lt-leb, eq-eqb, ne_eqb, cases_lt, cases_eq}
 use Rattle.std.proofs.Math.Nat.{sub-zero}
+use Rattle.machine_state.specs.Memory.{page_size}
 use Rattle.guest_pages.specs.declared.entry.Mark.{Mark}
 use Rattle.guest_pages.specs.declared.entry.Mark.TheVariants.{Written}
 use Rattle.guest_pages.specs.Changes.{Marks, touches, written_marks}
@@ -9,33 +10,33 @@ use Rattle.guest_pages.specs.Changes.{Marks, touches, written_marks}
 touch_none : (addr page : ℕ) → touches addr 0 page ≡ false
 touch_none addr page = rw (le-ltb 0 0 (omega arith)) refl
 
-touch_below : (addr len page : ℕ) → page < addr / 4096 → touches addr len page ≡ false
-touch_below addr len page low = rw (lt-leb (addr / 4096) page low) (below_case (nat_lt 0 len) (nat_le page ((addr + len - 1) / 4096)))
+touch_below : (addr len page : ℕ) → page < addr / page_size → touches addr len page ≡ false
+touch_below addr len page low = rw (lt-leb (addr / page_size) page low) (below_case (nat_lt 0 len) (nat_le page ((addr + len - 1) / page_size)))
   where
     below_case : (a b : Bool) → (a && false && b) ≡ false
     below_case true b = refl
     below_case false b = refl
 
-touch_above : (addr len page : ℕ) → (addr + len - 1) / 4096 < page → touches addr len page ≡ false
-touch_above addr len page high = rw (lt-leb page ((addr + len - 1) / 4096) high) (above_case (nat_lt 0 len) (nat_le (addr / 4096) page))
+touch_above : (addr len page : ℕ) → (addr + len - 1) / page_size < page → touches addr len page ≡ false
+touch_above addr len page high = rw (lt-leb page ((addr + len - 1) / page_size) high) (above_case (nat_lt 0 len) (nat_le (addr / page_size) page))
   where
     above_case : (a b : Bool) → (a && b && false) ≡ false
     above_case true true = refl
     above_case true false = refl
     above_case false b = refl
 
-pub touch_there : (addr len page : ℕ) → 0 < len → addr / 4096 ≤ page → page ≤ (addr + len - 1) / 4096 → touches addr len page ≡ true
-touch_there addr len page some low high = rw (lt-ltb 0 len some, le-leb (addr / 4096) page low, le-leb page ((addr + len - 1) / 4096) high) refl
+pub touch_there : (addr len page : ℕ) → 0 < len → addr / page_size ≤ page → page ≤ (addr + len - 1) / page_size → touches addr len page ≡ true
+touch_there addr len page some low high = rw (lt-ltb 0 len some, le-leb (addr / page_size) page low, le-leb page ((addr + len - 1) / page_size) high) refl
 
 -- an access within one page touches that page alone
-pub touches_within : (addr len page : ℕ) → 0 < len → addr % 4096 + len ≤ 4096 → touches addr len page ≡ (page == addr / 4096)
+pub touches_within : (addr len page : ℕ) → 0 < len → addr % page_size + len ≤ page_size → touches addr len page ≡ (page == addr / page_size)
 touches_within addr len page some within = ⊎_elim
-    (λ (same : page ≡ addr / 4096). touch_there addr len page some (omega arith) (omega arith) ∙ sym (eq-eqb page (addr / 4096) same))
-    (λ (other : page ≢ addr / 4096). ⊎_elim
-    (λ (low : page < addr / 4096). touch_below addr len page low ∙ sym (ne_eqb page (addr / 4096) other))
-    (λ (high : addr / 4096 ≤ page). touch_above addr len page (omega arith) ∙ sym (ne_eqb page (addr / 4096) other))
-    (cases_lt page (addr / 4096)))
-    (cases_eq page (addr / 4096))
+    (λ (same : page ≡ addr / page_size). touch_there addr len page some (omega arith) (omega arith) ∙ sym (eq-eqb page (addr / page_size) same))
+    (λ (other : page ≢ addr / page_size). ⊎_elim
+    (λ (low : page < addr / page_size). touch_below addr len page low ∙ sym (ne_eqb page (addr / page_size) other))
+    (λ (high : addr / page_size ≤ page). touch_above addr len page (omega arith) ∙ sym (ne_eqb page (addr / page_size) other))
+    (cases_lt page (addr / page_size)))
+    (cases_eq page (addr / page_size))
 
 or_none : (a : Bool) → a ≡ (a || false)
 or_none true = refl
@@ -52,15 +53,15 @@ touches_on addr from end page h = ⊎_elim
     (λ (some : from ≢ 0). ⊎_elim
     (λ (whole : end ≡ from). let rest : from - from ≡ 0 = omega arith in rw (whole, rest, touch_none (addr + from) page) (or_none (touches addr from page)))
     (λ (more : end ≢ from). ⊎_elim
-    (λ (low : page < addr / 4096). rw (touch_below addr end page low, touch_below addr from page low, touch_below (addr + from) (end - from) page (omega arith)) refl)
-    (λ (low : addr / 4096 ≤ page). ⊎_elim
-    (λ (high : (addr + end - 1) / 4096 < page). rw (touch_above addr end page high, touch_above addr from page (omega arith), touch_above (addr + from) (end - from) page (omega arith)) refl)
-    (λ (high : page ≤ (addr + end - 1) / 4096). ⊎_elim
-    (λ (second : (addr + from - 1) / 4096 < page). rw (touch_there addr end page (omega arith) low high, touch_there (addr + from) (end - from) page (omega arith) (omega arith) (omega arith)) (or_right (touches addr from page)))
-    (λ (first : page ≤ (addr + from - 1) / 4096). rw (touch_there addr end page (omega arith) low high, touch_there addr from page (omega arith) low first) refl)
-    (cases_lt ((addr + from - 1) / 4096) page))
-    (cases_lt ((addr + end - 1) / 4096) page))
-    (cases_lt page (addr / 4096)))
+    (λ (low : page < addr / page_size). rw (touch_below addr end page low, touch_below addr from page low, touch_below (addr + from) (end - from) page (omega arith)) refl)
+    (λ (low : addr / page_size ≤ page). ⊎_elim
+    (λ (high : (addr + end - 1) / page_size < page). rw (touch_above addr end page high, touch_above addr from page (omega arith), touch_above (addr + from) (end - from) page (omega arith)) refl)
+    (λ (high : page ≤ (addr + end - 1) / page_size). ⊎_elim
+    (λ (second : (addr + from - 1) / page_size < page). rw (touch_there addr end page (omega arith) low high, touch_there (addr + from) (end - from) page (omega arith) (omega arith) (omega arith)) (or_right (touches addr from page)))
+    (λ (first : page ≤ (addr + from - 1) / page_size). rw (touch_there addr end page (omega arith) low high, touch_there addr from page (omega arith) low first) refl)
+    (cases_lt ((addr + from - 1) / page_size) page))
+    (cases_lt ((addr + end - 1) / page_size) page))
+    (cases_lt page (addr / page_size)))
     (cases_eq end from))
     (cases_eq from 0)
 

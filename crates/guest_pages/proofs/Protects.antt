@@ -1,7 +1,7 @@
 -- Lemmas on a page whose permissions change.
 use Rattle.std.proofs.Common.{◌≡◌, ℕ, ap, add-zero, ◌/◌, ◌%◌, List, Bool, true, false, cond, Option, Some, None, get_or, ◌==◌, refl, sym, ◌∙◌, ⊎_elim, ◌≢◌, IsSome, set}
 use Rattle.std.proofs.lemmas.Bool.{cases_eq, eq-eqb, ne_eqb, false≢true}
-use Rattle.machine_state.specs.Memory.{Swap, zeroed}
+use Rattle.machine_state.specs.Memory.{page_size, Swap, zeroed}
 use Rattle.machine_state.specs.declared.permissions.Perms.{Perms}
 use Rattle.guest_pages.specs.declared.entry.Entry.{Entry}
 use Rattle.std.specs.Option.{option_map}
@@ -21,10 +21,10 @@ use Rattle.guest_pages.proofs.Takes.{taken, entry_mapped, size_taken, table_take
 use Rattle.guest_pages.proofs.Maps.{zeros_byte}
 use Rattle.guest_pages.proofs.Keeps.{kept_changed}
 
-pub byte_seated : (pages : PagesValue) (k : ℕ) (entry : Entry) (swap : Swap) (at : ℕ) → IsSeatOf pages.slots (at / 4096) k → get_or pages.slots k None ≡ Some entry
-    → byte_of pages swap at ≡ seat_byte swap (seat_at k entry) (at % 4096)
+pub byte_seated : (pages : PagesValue) (k : ℕ) (entry : Entry) (swap : Swap) (at : ℕ) → IsSeatOf pages.slots (at / page_size) k → get_or pages.slots k None ≡ Some entry
+    → byte_of pages swap at ≡ seat_byte swap (seat_at k entry) (at % page_size)
 unfolding byte_of
-byte_seated pages k entry swap at seat is = rw (seek_at pages.slots (at / 4096) k entry seat is) refl
+byte_seated pages k entry swap at seat is = rw (seek_at pages.slots (at / page_size) k entry seat is) refl
 
 module _ (pages : PagesValue) (page k : ℕ) (entry : Entry) (seat : IsSeatOf pages.slots page k) (is : get_or pages.slots k None ≡ Some entry) (page_is : entry.page ≡ page) (sound : AreSound pages.slots)
     (perms : Perms) where
@@ -36,12 +36,12 @@ module _ (pages : PagesValue) (page k : ℕ) (entry : Entry) (seat : IsSeatOf pa
 
   byte_case : (swap : Swap) (at : ℕ) → byte_of (taken pages k (record entry { perms = perms })) swap at ≡ byte_of pages swap at
   byte_case swap at = ⊎_elim
-      (λ (here : at / 4096 ≡ entry.page).
-      let there : IsSeatOf pages.slots (at / 4096) k = rw (here, page_is) seat in
-      byte_taken pages k (record entry { perms = perms }) can swap at ∙ rw (eq-eqb (at / 4096) entry.page here) (sym (byte_seated pages k entry swap at there is)))
-      (λ (other : at / 4096 ≢ entry.page).
-      byte_taken pages k (record entry { perms = perms }) can swap at ∙ rw (ne_eqb (at / 4096) entry.page other) refl)
-      (cases_eq (at / 4096) entry.page)
+      (λ (here : at / page_size ≡ entry.page).
+      let there : IsSeatOf pages.slots (at / page_size) k = rw (here, page_is) seat in
+      byte_taken pages k (record entry { perms = perms }) can swap at ∙ rw (eq-eqb (at / page_size) entry.page here) (sym (byte_seated pages k entry swap at there is)))
+      (λ (other : at / page_size ≢ entry.page).
+      byte_taken pages k (record entry { perms = perms }) can swap at ∙ rw (ne_eqb (at / page_size) entry.page other) refl)
+      (cases_eq (at / page_size) entry.page)
 
   -- the pages where the permissions of one changed
   pub protected_there : IsProtected pages (taken pages k (record entry { perms = perms })) page perms.0
@@ -104,8 +104,8 @@ module _ (pages : PagesValue) (page k : ℕ) (entry after : Entry) (seat : IsSea
     table = table_kept pages k after can_take table_is;
     byte = λ swap i at.
         (byte_taken pages k after can_take swap at
-        ∙ zero_case (at / 4096 == after.page) _ _ (zeros_byte after.place (swap k) (at % 4096) zeroes.zeros)
-        ∙ ap (λ (q : ℕ). cond (at / 4096 == q) 0 (byte_of pages swap at)) after_is) i;
+        ∙ zero_case (at / page_size == after.page) _ _ (zeros_byte after.place (swap k) (at % page_size) zeroes.zeros)
+        ∙ ap (λ (q : ℕ). cond (at / page_size == q) 0 (byte_of pages swap at)) after_is) i;
     marks =
         mark_taken pages k after can_take
         ∙ (λ i. with_mark (mark_of pages) (after_is i) (fresh_case entry.place after.place zeroes.zeros zeroes.resident i))
@@ -136,9 +136,9 @@ unmapped_resident old new page unmapped all q = rw unmapped.table (none_away (q 
 absent_byte : (pages : PagesValue) (page : ℕ) → LacksPage pages.slots page → (swap : Swap) (at : ℕ) → byte_of pages swap at ≡ zeroed (byte_of pages swap) page at
 unfolding byte_of
 absent_byte pages page lacks swap at = ⊎_elim
-    (λ (here : at / 4096 ≡ page). rw (eq-eqb (at / 4096) page here, here, seek_none 0 pages.slots page lacks) refl)
-    (λ (other : at / 4096 ≢ page). rw (ne_eqb (at / 4096) page other) refl)
-    (cases_eq (at / 4096) page)
+    (λ (here : at / page_size ≡ page). rw (eq-eqb (at / page_size) page here, here, seek_none 0 pages.slots page lacks) refl)
+    (λ (other : at / page_size ≢ page). rw (ne_eqb (at / page_size) page other) refl)
+    (cases_eq (at / page_size) page)
 
 -- a page that isn't mapped
 pub unmapped_absent : (pages : PagesValue) (page : ℕ) → LacksPage pages.slots page → IsUnmapped pages pages page

@@ -2,6 +2,7 @@
 use Rattle.std.proofs.Common.{◌≡◌, ℕ, ◌+◌, ◌-◌, ◌/◌, ◌%◌, ◌<◌, ◌≤◌, List, ◌++◌, false, cond, length, get_or, refl, sym, ap, ◌∙◌, ⊎_elim, arith, take, drop, nat_lt, nat_le, ◌&&◌}
 use Rattle.std.proofs.lemmas.List.{length-take, length-take-le, get_or-take, get_or-drop, get_or_append_left, get_or-append_right, get_or_past}
 use Rattle.std.proofs.lemmas.Bool.{cases_lt}
+use Rattle.machine_state.specs.Memory.{page_size}
 use Rattle.machine_state.proofs.MemoryLemmas.{below_write, in_write, above_write}
 use Rattle.guest_pages.specs.Bytes.{put_at}
 
@@ -48,18 +49,18 @@ get_or-put_at bytes at i other fits = ⊎_elim
     (cases_lt i at)
 
 -- the test of a write at an address of its page is the test at the index within the page
-pub test_there : (addr other len : ℕ) → addr / 4096 ≡ other / 4096
-    → (nat_le (addr % 4096) (other % 4096) && nat_lt (other % 4096) (addr % 4096 + len)) ≡ (nat_le addr other && nat_lt other (addr + len))
+pub test_there : (addr other len : ℕ) → addr / page_size ≡ other / page_size
+    → (nat_le (addr % page_size) (other % page_size) && nat_lt (other % page_size) (addr % page_size + len)) ≡ (nat_le addr other && nat_lt other (addr + len))
 test_there addr other len same = ⊎_elim
-    (λ (low : other < addr). below_write (addr % 4096) (other % 4096) (addr % 4096 + len) (omega arith) ∙ sym (below_write addr other (addr + len) low))
+    (λ (low : other < addr). below_write (addr % page_size) (other % page_size) (addr % page_size + len) (omega arith) ∙ sym (below_write addr other (addr + len) low))
     (λ (low : addr ≤ other). ⊎_elim
-    (λ (high : other < addr + len). in_write (addr % 4096) (other % 4096) (addr % 4096 + len) (omega arith) (omega arith) ∙ sym (in_write addr other (addr + len) low high))
-    (λ (high : addr + len ≤ other). above_write (addr % 4096) (other % 4096) (addr % 4096 + len) (omega arith) (omega arith) ∙ sym (above_write addr other (addr + len) low high))
+    (λ (high : other < addr + len). in_write (addr % page_size) (other % page_size) (addr % page_size + len) (omega arith) (omega arith) ∙ sym (in_write addr other (addr + len) low high))
+    (λ (high : addr + len ≤ other). above_write (addr % page_size) (other % page_size) (addr % page_size + len) (omega arith) (omega arith) ∙ sym (above_write addr other (addr + len) low high))
     (cases_lt other (addr + len)))
     (cases_lt other addr)
 
 -- a write within a page doesn't reach an address of another page
-pub test_elsewhere : (addr other len : ℕ) → addr % 4096 + len ≤ 4096 → (addr / 4096 ≡ other / 4096 → ⊥) → (nat_le addr other && nat_lt other (addr + len)) ≡ false
+pub test_elsewhere : (addr other len : ℕ) → addr % page_size + len ≤ page_size → (addr / page_size ≡ other / page_size → ⊥) → (nat_le addr other && nat_lt other (addr + len)) ≡ false
 test_elsewhere addr other len fits apart = ⊎_elim
     (λ (low : other < addr). below_write addr other (addr + len) low)
     (λ (low : addr ≤ other). ⊎_elim

@@ -2,7 +2,7 @@
 use Rattle.std.proofs.Common.{◌≡◌, ℕ, ◌+◌, ◌-◌, ◌/◌, ◌%◌, ◌<◌, ◌≤◌, List, ◌++◌, Bool, true, false, cond, Option, Some, None, length, get_or, refl, sym, ap, ◌∙◌, arith, take, drop, slice_range}
 use Rattle.std.proofs.lemmas.List.{length-append, length-take, length-drop}
 use Rattle.machine_state.specs.declared.kinds.Miss.TheVariants.{Away}
-use Rattle.machine_state.specs.Memory.{Swap, bytes_at}
+use Rattle.machine_state.specs.Memory.{page_size, Swap, bytes_at}
 use Rattle.machine_state.proofs.MemoryLemmas.{bytes_at-append, bytes_at_listed, bytes_at-zero}
 use Rattle.guest_pages.specs.declared.entry.Entry.{Entry}
 use Rattle.guest_pages.specs.declared.entry.Place.{Place}
@@ -60,27 +60,27 @@ resident_there pages page k bytes seat some =
     let place : place_frame there.0.place ≡ Some bytes = rw there.1 at some in
     rw (table_at pages page k there.0 seat there.1, a_frame there.0.place bytes place) refl
 
-byte_there : (pages : PagesValue) (addr k : ℕ) (bytes : List ℕ) (swap : Swap) (i : ℕ) → IsSeatOf pages.slots (addr / 4096) k
-    → slot_frame (get_or pages.slots k None) ≡ Some bytes → addr % 4096 + i < 4096 → byte_of pages swap (addr + i) ≡ get_or bytes (addr % 4096 + i) 0
+byte_there : (pages : PagesValue) (addr k : ℕ) (bytes : List ℕ) (swap : Swap) (i : ℕ) → IsSeatOf pages.slots (addr / page_size) k
+    → slot_frame (get_or pages.slots k None) ≡ Some bytes → addr % page_size + i < page_size → byte_of pages swap (addr + i) ≡ get_or bytes (addr % page_size + i) 0
 unfolding byte_of
 byte_there pages addr k bytes swap i seat some within =
-    let there = entry_there (get_or pages.slots k None) (addr / 4096) seat.here in
+    let there = entry_there (get_or pages.slots k None) (addr / page_size) seat.here in
     let place : place_frame there.0.place ≡ Some bytes = rw there.1 at some in
-    let page : (addr + i) / 4096 ≡ addr / 4096 = omega arith in
-    let index : (addr + i) % 4096 ≡ addr % 4096 + i = omega arith in
-    rw (page, index, seek_at pages.slots (addr / 4096) k there.0 seat there.1) (frame_byte there.0.place bytes (swap k) (addr % 4096 + i) place)
+    let page : (addr + i) / page_size ≡ addr / page_size = omega arith in
+    let index : (addr + i) % page_size ≡ addr % page_size + i = omega arith in
+    rw (page, index, seek_at pages.slots (addr / page_size) k there.0 seat there.1) (frame_byte there.0.place bytes (swap k) (addr % page_size + i) place)
 
 -- a part of a frame shows the bytes of its page
-pub shown_there : (pages : PagesValue) (addr k len : ℕ) (bytes shown : List ℕ) → IsSeatOf pages.slots (addr / 4096) k
-    → slot_frame (get_or pages.slots k None) ≡ Some bytes → addr % 4096 + len ≤ 4096 → length bytes ≡ 4096
-    → shown ≡ slice_range bytes (addr % 4096) (addr % 4096 + len) → IsShown pages addr len shown
+pub shown_there : (pages : PagesValue) (addr k len : ℕ) (bytes shown : List ℕ) → IsSeatOf pages.slots (addr / page_size) k
+    → slot_frame (get_or pages.slots k None) ≡ Some bytes → addr % page_size + len ≤ page_size → length bytes ≡ page_size
+    → shown ≡ slice_range bytes (addr % page_size) (addr % page_size + len) → IsShown pages addr len shown
 shown_there pages addr k len bytes shown seat some within whole is =
-    let count : addr % 4096 + len - addr % 4096 ≡ len = omega arith in
-    let cut : shown ≡ take len (drop (addr % 4096) bytes) = is ∙ ap (λ (n : ℕ). take n (drop (addr % 4096) bytes)) count in
-    let rest : length (drop (addr % 4096) bytes) ≡ 4096 - addr % 4096 = length-drop (addr % 4096) bytes ∙ ap (λ (n : ℕ). n - addr % 4096) whole in
+    let count : addr % page_size + len - addr % page_size ≡ len = omega arith in
+    let cut : shown ≡ take len (drop (addr % page_size) bytes) = is ∙ ap (λ (n : ℕ). take n (drop (addr % page_size) bytes)) count in
+    let rest : length (drop (addr % page_size) bytes) ≡ page_size - addr % page_size = length-drop (addr % page_size) bytes ∙ ap (λ (n : ℕ). n - addr % page_size) whole in
     record {
-      len_is = rw (cut, length-take len (drop (addr % 4096) bytes), rest) (omega arith);
-      bytes = λ swap. cut ∙ bytes_at_listed (byte_of pages swap) addr len bytes (addr % 4096) (rw whole within) (λ i h. byte_there pages addr k bytes swap i seat some (omega arith));
+      len_is = rw (cut, length-take len (drop (addr % page_size) bytes), rest) (omega arith);
+      bytes = λ swap. cut ∙ bytes_at_listed (byte_of pages swap) addr len bytes (addr % page_size) (rw whole within) (λ i h. byte_there pages addr k bytes swap i seat some (omega arith));
     }
 
 pub shown_none : (pages : PagesValue) (addr : ℕ) (bytes : List ℕ) → IsShown pages addr 0 (take 0 bytes)

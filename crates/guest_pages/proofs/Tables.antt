@@ -5,7 +5,7 @@ use Rattle.std.specs.Option.{option_map}
 use Rattle.machine_state.specs.declared.kinds.Kind.{Kind}
 use Rattle.machine_state.specs.declared.kinds.Miss.{Miss}
 use Rattle.machine_state.specs.declared.kinds.Miss.TheVariants.{Denied}
-use Rattle.machine_state.specs.Memory.{miss_at, permits}
+use Rattle.machine_state.specs.Memory.{page_size, miss_at, permits}
 use Rattle.guest_pages.specs.declared.entry.Entry.{Entry}
 use Rattle.guest_pages.specs.Entry.{holds_page, slot_permits, is_resident}
 use Rattle.guest_pages.specs.Table.{Mapped, perms_in}
@@ -23,34 +23,34 @@ unfolding table_of
 table_at pages page k entry seat is = ap (option_map mapped_of) (seek_at pages.slots page k entry seat is)
 
 -- the byte where no page is mapped
-pub miss_unmapped : (pages : PagesValue) (kind : Kind) (addr : ℕ) (miss : Miss) → LacksPage pages.slots (addr / 4096)
+pub miss_unmapped : (pages : PagesValue) (kind : Kind) (addr : ℕ) (miss : Miss) → LacksPage pages.slots (addr / page_size)
     → ((any : Kind) → miss_at (λ _. None) any addr ≡ Some miss) → miss_at (perms_in (table_of pages)) kind addr ≡ Some miss
-miss_unmapped pages kind addr miss lacks is = rw (table_none pages (addr / 4096) lacks) (is kind)
+miss_unmapped pages kind addr miss lacks is = rw (table_none pages (addr / page_size) lacks) (is kind)
 
-canonical : (slots : List (Option Entry)) (addr k : ℕ) → AreSound slots → IsSeatOf slots (addr / 4096) k → addr < 0x800000000000
-canonical slots addr k sound seat = let low : addr / 4096 < 0x800000000 = sound.low k (addr / 4096) seat.within seat.here in omega arith
+canonical : (slots : List (Option Entry)) (addr k : ℕ) → AreSound slots → IsSeatOf slots (addr / page_size) k → addr < 0x800000000000
+canonical slots addr k sound seat = let low : addr / page_size < 0x800000000 = sound.low k (addr / page_size) seat.within seat.here in omega arith
 
 -- a page that grants the access
-pub granted : (pages : PagesValue) (kind : Kind) (addr k : ℕ) → AreSound pages.slots → IsSeatOf pages.slots (addr / 4096) k
+pub granted : (pages : PagesValue) (kind : Kind) (addr k : ℕ) → AreSound pages.slots → IsSeatOf pages.slots (addr / page_size) k
     → slot_permits (get_or pages.slots k None) kind ≡ true → IsGranted pages kind addr k
 granted pages kind addr k sound seat may =
     let low = canonical pages.slots addr k sound seat in
-    let there = entry_there (get_or pages.slots k None) (addr / 4096) seat.here in
+    let there = entry_there (get_or pages.slots k None) (addr / page_size) seat.here in
     let allows : permits kind there.0.perms.0 ≡ true = rw there.1 at may in
     record {
-      grants = rw (lt-leb 0x800000000000 addr low, table_at pages (addr / 4096) k there.0 seat there.1, allows) refl;
+      grants = rw (lt-leb 0x800000000000 addr low, table_at pages (addr / page_size) k there.0 seat there.1, allows) refl;
       low = low;
       seat = seat;
     }
 
 -- a page that doesn't
-pub denied : (pages : PagesValue) (kind : Kind) (addr k : ℕ) → AreSound pages.slots → IsSeatOf pages.slots (addr / 4096) k
+pub denied : (pages : PagesValue) (kind : Kind) (addr k : ℕ) → AreSound pages.slots → IsSeatOf pages.slots (addr / page_size) k
     → slot_permits (get_or pages.slots k None) kind ≡ false → miss_at (perms_in (table_of pages)) kind addr ≡ Some (Denied addr)
 denied pages kind addr k sound seat not_so =
     let low = canonical pages.slots addr k sound seat in
-    let there = entry_there (get_or pages.slots k None) (addr / 4096) seat.here in
+    let there = entry_there (get_or pages.slots k None) (addr / page_size) seat.here in
     let denies : permits kind there.0.perms.0 ≡ false = rw there.1 at not_so in
-    rw (lt-leb 0x800000000000 addr low, table_at pages (addr / 4096) k there.0 seat there.1, denies) refl
+    rw (lt-leb 0x800000000000 addr low, table_at pages (addr / page_size) k there.0 seat there.1, denies) refl
 
 found_from : (n : ℕ) (slots : List (Option Entry)) (page : ℕ) (seat : Seat) → seek n slots page ≡ Some seat
     → (i : ℕ) × (seat.slot ≡ n + i) × (i < length slots) × (holds_page (get_or slots i None) page ≡ true)

@@ -4,7 +4,7 @@ use Rattle.std.proofs.lemmas.Bool.{cases_eq, eq-eqb, ne_eqb}
 use Rattle.std.specs.Option.{option_map, option_and_then}
 use Rattle.std.proofs.lemmas.List.{length-set}
 use Rattle.std.proofs.lemmas.List.Sums.{sum_by-set}
-use Rattle.machine_state.specs.Memory.{Swap}
+use Rattle.machine_state.specs.Memory.{page_size, Swap}
 use Rattle.guest_pages.specs.declared.entry.Entry.{Entry}
 use Rattle.guest_pages.specs.Entry.{is_resident, is_in_frame, mark_in}
 use Rattle.guest_pages.specs.declared.entry.Mark.{Mark}
@@ -39,11 +39,11 @@ byte_cond swap false x y at = refl
 
 pub byte_taken : (pages : PagesValue) (k : ℕ) (entry : Entry) → CanTake pages.slots entry.page k → (swap : Swap) (addr : ℕ)
     → byte_of (taken pages k entry) swap addr
-    ≡ cond (addr / 4096 == entry.page) (seat_byte swap (seat_at k entry) (addr % 4096)) (byte_of pages swap addr)
+    ≡ cond (addr / page_size == entry.page) (seat_byte swap (seat_at k entry) (addr % page_size)) (byte_of pages swap addr)
 unfolding byte_of
 byte_taken pages k entry can swap addr =
-    ap (λ (seat : Option Seat). seat_byte swap seat (addr % 4096)) (seek_taken pages.slots k entry (addr / 4096) can)
-    ∙ byte_cond swap (addr / 4096 == entry.page) _ _ (addr % 4096)
+    ap (λ (seat : Option Seat). seat_byte swap seat (addr % page_size)) (seek_taken pages.slots k entry (addr / page_size) can)
+    ∙ byte_cond swap (addr / page_size == entry.page) _ _ (addr % page_size)
 
 pub count_taken : (pages : PagesValue) (k : ℕ) (entry : Entry) → k < length pages.slots
     → mapped_count (taken pages k entry) + cond (is_some (get_or pages.slots k None)) 1 0 ≡ mapped_count pages + 1
@@ -115,7 +115,7 @@ emptied_there pages page k entry apart seat is = record {
   size = record { frames = refl; pages = length-set pages.slots k None };
   table = λ i q. (ap (option_map mapped_of) (seek_emptied pages.slots k page q apart seat) ∙ map_cond mapped_of (q == page) _ _) i;
   byte = λ swap i at.
-      (ap (λ (seat : Option Seat). seat_byte swap seat (at % 4096)) (seek_emptied pages.slots k page (at / 4096) apart seat) ∙ byte_cond swap (at / 4096 == page) _ _ (at % 4096)) i;
+      (ap (λ (seat : Option Seat). seat_byte swap seat (at % page_size)) (seek_emptied pages.slots k page (at / page_size) apart seat) ∙ byte_cond swap (at / page_size == page) _ _ (at % page_size)) i;
   marks = λ i q. (ap (option_and_then (λ seat. mark_in seat.entry.place)) (seek_emptied pages.slots k page q apart seat) ∙ mark_cond (q == page) _ _) i;
   count =
       let counts : count_by is_some (set pages.slots k None) + 1 ≡ count_by is_some pages.slots + 0 = rw is at (sum_by-set (λ o. cond (is_some o) 1 0) pages.slots k None None seat.within) in

@@ -2,7 +2,7 @@
 use Rattle.std.proofs.Common.{◌≡◌, ℕ, ◌+◌, ◌-◌, ◌/◌, ◌%◌, ◌<◌, ◌≤◌, Bool, true, false, if◌then◌else◌, Option, Some, None, zero, suc, refl, sym, ap, ◌∙◌, arith, zero-add, add-zero}
 use Rattle.machine_state.specs.declared.kinds.Kind.{Kind}
 use Rattle.machine_state.specs.declared.kinds.Miss.{Miss}
-use Rattle.machine_state.specs.Memory.{first_miss, miss_at, or_else}
+use Rattle.machine_state.specs.Memory.{page_size, first_miss, miss_at, or_else}
 use Rattle.machine_state.proofs.MemoryLemmas.{or_else-assoc, or_else_right, or_else_none, first_miss_part, first_miss_within, first_miss_at_once, first_miss_skip, first_miss-zero, first_miss-append}
 use Rattle.machine_state.specs.declared.kinds.Miss.TheVariants.{Away}
 use Rattle.std.specs.Option.{option_map}
@@ -21,7 +21,7 @@ first_away-append table addr zero n = rw (zero-add, add-zero) refl
 first_away-append table addr (suc k) n =
     let sum : suc k + n ≡ suc (k + n) = omega arith in
     let next : addr + suc k ≡ addr + 1 + k = omega arith in
-    rw (sum, next) (ap (or_else (away_at (table (addr / 4096)))) (first_away-append table (addr + 1) k n) ∙ or_else-assoc (away_at (table (addr / 4096))) _ _)
+    rw (sum, next) (ap (or_else (away_at (table (addr / page_size)))) (first_away-append table (addr + 1) k n) ∙ or_else-assoc (away_at (table (addr / page_size))) _ _)
 
 first_away_part : (table : Table) (addr len from n : ℕ) → from + n ≤ len → first_away table addr len ≡ None → first_away table (addr + from) n ≡ None
 first_away_part table addr len from n within none =
@@ -43,19 +43,19 @@ away_twice None = refl
 away_twice (Some miss) = refl
 
 -- an access within one page, which is away or not
-pub first_away_within : (table : Table) (addr len : ℕ) → 0 < len → addr % 4096 + len ≤ 4096 → first_away table addr len ≡ away_at (table (addr / 4096))
+pub first_away_within : (table : Table) (addr len : ℕ) → 0 < len → addr % page_size + len ≤ page_size → first_away table addr len ≡ away_at (table (addr / page_size))
 unfolding first_away
 first_away_within table addr zero some within = absurd (omega arith)
-first_away_within table addr (suc zero) some within = or_else_right (away_at (table (addr / 4096)))
+first_away_within table addr (suc zero) some within = or_else_right (away_at (table (addr / page_size)))
 first_away_within table addr (suc (suc len)) some within =
-    let same : (addr + 1) / 4096 ≡ addr / 4096 = omega arith in
-    let rest : first_away table (addr + 1) (suc len) ≡ away_at (table (addr / 4096)) =
+    let same : (addr + 1) / page_size ≡ addr / page_size = omega arith in
+    let rest : first_away table (addr + 1) (suc len) ≡ away_at (table (addr / page_size)) =
     first_away_within table (addr + 1) (suc len) (omega arith) (omega arith) ∙ ap (λ (page : ℕ). away_at (table page)) same in
-    rw rest (away_twice (away_at (table (addr / 4096))))
+    rw rest (away_twice (away_at (table (addr / page_size))))
 
 -- what keeps an access within one page from being made, where the page grants it
-pub blocked_within : (table : Table) (kind : Kind) (addr len : ℕ) → 0 < len → addr % 4096 + len ≤ 4096 → miss_at (perms_in table) kind addr ≡ None
-    → blocked table kind addr len ≡ away_at (table (addr / 4096))
+pub blocked_within : (table : Table) (kind : Kind) (addr len : ℕ) → 0 < len → addr % page_size + len ≤ page_size → miss_at (perms_in table) kind addr ≡ None
+    → blocked table kind addr len ≡ away_at (table (addr / page_size))
 blocked_within table kind addr len some within none =
     rw (first_miss_within (perms_in table) kind addr len within none) (first_away_within table addr len some within)
 
@@ -66,7 +66,7 @@ blocked_at_once table kind addr len miss some is = rw (first_miss_at_once (perms
 
 -- what keeps an access within one page from being made keeps its first byte from being had: all bytes of a page share
 -- their permissions, and are in a frame or not together
-pub blocked_first : (table : Table) (kind : Kind) (addr len : ℕ) → 0 < len → addr % 4096 + len ≤ 4096
+pub blocked_first : (table : Table) (kind : Kind) (addr len : ℕ) → 0 < len → addr % page_size + len ≤ page_size
     → blocked table kind addr 1 ≡ blocked table kind addr len
 blocked_first table kind addr len some within = by_first (miss_at (perms_in table) kind addr) refl
   where
@@ -99,7 +99,7 @@ pub first_away-away : (table : Table) (addr len : ℕ) (miss : Miss) → first_a
 unfolding first_away
 first_away-away table addr zero miss e = cc
 first_away-away table addr (suc len) miss e =
-    either (away_at (table (addr / 4096))) (first_away table (addr + 1) len) (away_at-away (table (addr / 4096)) miss)
+    either (away_at (table (addr / page_size))) (first_away table (addr + 1) len) (away_at-away (table (addr / page_size)) miss)
     (first_away-away table (addr + 1) len miss) e
   where
     either : (first later : Option Miss) → (first ≡ Some miss → (slot : ℕ) × (miss ≡ Away slot))
@@ -110,7 +110,7 @@ first_away-away table addr (suc len) miss e =
 none_away : (table : Table) (addr len : ℕ) → ((page : ℕ) → away_at (table page) ≡ None) → first_away table addr len ≡ None
 unfolding first_away
 none_away table addr zero all = refl
-none_away table addr (suc len) all = rw (all (addr / 4096)) (none_away table (addr + 1) len all)
+none_away table addr (suc len) all = rw (all (addr / page_size)) (none_away table (addr + 1) len all)
 
 -- where every mapped page is in a frame, nothing but a miss keeps an access from being made
 pub blocked_resident : (table : Table) (kind : Kind) (addr len : ℕ) → ((page : ℕ) → away_at (table page) ≡ None)
@@ -119,7 +119,7 @@ blocked_resident table kind addr len all = rw (none_away table addr len all) (or
 
 -- of an access that can be made, the first byte is allowed and its page is in a frame
 pub ready_here : (table : Table) (kind : Kind) (addr len : ℕ) → 0 < len → blocked table kind addr len ≡ None
-    → (miss_at (perms_in table) kind addr ≡ None) × (away_at (table (addr / 4096)) ≡ None)
+    → (miss_at (perms_in table) kind addr ≡ None) × (away_at (table (addr / page_size)) ≡ None)
 unfolding first_miss first_away
 ready_here table kind addr zero some none = absurd (omega arith)
 ready_here table kind addr (suc len) some none =
@@ -136,8 +136,8 @@ pub record WalksOn (pages : PagesValue) (kind : Kind) (addr len at left : ℕ) (
 
 -- the walk goes on past bytes of one page that grants the access
 pub walks_on : (pages : PagesValue) (kind : Kind) (addr len at left n : ℕ) (away next : Option ℕ) → WalksOn pages kind addr len at left away
-    → 0 < n → n < left → at % 4096 + n ≤ 4096 → miss_at (perms_in (table_of pages)) kind at ≡ None
-    → option_map Away next ≡ or_else (option_map Away away) (away_at (table_of pages (at / 4096))) → WalksOn pages kind addr len (at + n) (left - n) next
+    → 0 < n → n < left → at % page_size + n ≤ page_size → miss_at (perms_in (table_of pages)) kind at ≡ None
+    → option_map Away next ≡ or_else (option_map Away away) (away_at (table_of pages (at / page_size))) → WalksOn pages kind addr len (at + n) (left - n) next
 walks_on pages kind addr len at left n away next walks some fewer within grants is =
     let split : left ≡ n + (left - n) = omega arith in
     record {
@@ -148,13 +148,13 @@ walks_on pages kind addr len at left n away next walks some fewer within grants 
           walks.away_is
           ∙ ap (λ (m : ℕ). or_else (option_map Away away) (first_away (table_of pages) at m)) split
           ∙ rw (first_away-append (table_of pages) at n (left - n), first_away_within (table_of pages) at n some within, is)
-          (or_else-assoc (option_map Away away) (away_at (table_of pages (at / 4096))) (first_away (table_of pages) (at + n) (left - n)));
+          (or_else-assoc (option_map Away away) (away_at (table_of pages (at / page_size))) (first_away (table_of pages) (at + n) (left - n)));
     }
 
 -- the walk ends on a page that grants the access
 pub walked_at : (pages : PagesValue) (kind : Kind) (addr len at left : ℕ) (away next : Option ℕ) → WalksOn pages kind addr len at left away
-    → 0 < left → at % 4096 + left ≤ 4096 → miss_at (perms_in (table_of pages)) kind at ≡ None
-    → option_map Away next ≡ or_else (option_map Away away) (away_at (table_of pages (at / 4096))) → IsWalked pages kind addr len next
+    → 0 < left → at % page_size + left ≤ page_size → miss_at (perms_in (table_of pages)) kind at ≡ None
+    → option_map Away next ≡ or_else (option_map Away away) (away_at (table_of pages (at / page_size))) → IsWalked pages kind addr len next
 walked_at pages kind addr len at left away next walks some within grants is = record {
   allowed = walks.allowed ∙ first_miss_within (perms_in (table_of pages)) kind at left within grants;
   away_is = walks.away_is ∙ ap (or_else (option_map Away away)) (first_away_within (table_of pages) at left some within) ∙ sym is;

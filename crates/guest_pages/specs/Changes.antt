@@ -1,7 +1,7 @@
 -- What the calls on pages show and change.
 use Rattle.std.specs.Prelude.{ℕ, ◌≡◌, ◌≢◌, ◌+◌, ◌-◌, ◌/◌, ◌<◌, ◌==◌, ◌⊎◌, Bool, ◌&&◌, if◌then◌else◌, List, length, Option, Some, None, is_some, nat_lt, nat_le}
 use Rattle.std.specs.Option.{option_map}
-use Rattle.machine_state.specs.Memory.{Swap, bytes_at, written, zeroed}
+use Rattle.machine_state.specs.Memory.{page_size, Swap, bytes_at, written, zeroed}
 use Rattle.guest_pages.specs.declared.entry.Mark.{Mark}
 use Rattle.guest_pages.specs.declared.entry.Mark.TheVariants.{Fresh, Written}
 use Rattle.guest_pages.specs.Table.{Mapped, away_at, with_entry}
@@ -15,7 +15,7 @@ pub record KeepsSize (old new : PagesValue) : Type 0 where
 -- a page's mark and bytes stay
 pub record KeepsPage (old new : PagesValue) (page : ℕ) : Type 0 where
   pub mark : mark_of new page ≡ mark_of old page
-  pub bytes : (swap : Swap) (addr : ℕ) → addr / 4096 ≡ page → byte_of new swap addr ≡ byte_of old swap addr
+  pub bytes : (swap : Swap) (addr : ℕ) → addr / page_size ≡ page → byte_of new swap addr ≡ byte_of old swap addr
 
 -- the same pages are mapped, in the same slots, with the same permissions, and the same of them are in frames; each page
 -- stays as it was or is marked as written
@@ -39,7 +39,7 @@ with_mark marks page mark at = if at == page then mark else marks at
 
 -- whether an access has a byte on a page
 abbrev pub touches : ℕ → ℕ → ℕ → Bool
-touches addr len page = nat_lt 0 len && nat_le (addr / 4096) page && nat_le page ((addr + len - 1) / 4096)
+touches addr len page = nat_lt 0 len && nat_le (addr / page_size) page && nat_le page ((addr + len - 1) / page_size)
 
 -- marks after a write: the pages that it touches count as written
 abbrev pub written_marks : Marks → ℕ → ℕ → Marks

@@ -1,6 +1,6 @@
 -- A mapped page, and where its bytes are.
 use Rattle.std.specs.Prelude.{ℕ, List, Bool, true, false, Option, Some, None, IsSomeAnd, slice_index, slice_range, length, ◌+◌, ◌==◌, ◌≡◌, All, if◌then◌else◌}
-use Rattle.machine_state.specs.Memory.{permits}
+use Rattle.machine_state.specs.Memory.{page_size, permits}
 use Rattle.machine_state.specs.declared.kinds.Kind.{Kind}
 use Rattle.machine_state.specs.declared.permissions.Perms.{Perms}
 use Rattle.guest_pages.specs.Bytes.{put_at}
@@ -76,7 +76,7 @@ slot_frame (Some entry) = place_frame entry.place
 
 -- a part of a whole page's bytes
 pub record IsLent (at len : ℕ) (part bytes : List ℕ) : Type 0 where
-  pub whole : length bytes ≡ 4096
+  pub whole : length bytes ≡ page_size
   pub is : part ≡ slice_range bytes at (at + len)
 
 -- the slot of a page that isn't in a frame

@@ -1,7 +1,7 @@
 -- What holds of pages at any time.
 use Rattle.std.specs.Prelude.{ℕ, ◌≡◌, ◌<◌, ◌≤◌, ◌/◌, ◌^◌, ◌==◌, List, length, Some, None, IsSome, is_some, nat_eq, count_by}
 use Rattle.std.specs.List.{list_any, IsDistinct}
-use Rattle.machine_state.specs.Memory.{Swap}
+use Rattle.machine_state.specs.Memory.{page_size, Swap}
 use Rattle.guest_pages.specs.Table.{Mapped, Table, in_frame}
 use Rattle.guest_pages.specs.Pages.{PagesValue, table_of, byte_of, mapped_count, resident_count}
 
@@ -28,5 +28,5 @@ pub record HaveSlots (pages : PagesValue) : Type 0 where
 
 -- pages lie in the lower half of the address space (SDM volume 1, 3.3.7.1), and a byte is 0 where no page is mapped
 pub record FitMemory (pages : PagesValue) : Type 0 where
-  pub low : (page : ℕ) → IsSome (table_of pages page) → page < 2 ^ 47 / 4096
-  pub zeros : (swap : Swap) (addr : ℕ) → table_of pages (addr / 4096) ≡ None → byte_of pages swap addr ≡ 0
+  pub low : (page : ℕ) → IsSome (table_of pages page) → page < 2 ^ 47 / page_size
+  pub zeros : (swap : Swap) (addr : ℕ) → table_of pages (addr / page_size) ≡ None → byte_of pages swap addr ≡ 0

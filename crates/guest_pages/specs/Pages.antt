@@ -1,7 +1,7 @@
 -- What a contract sees of the pages, and the memory that they stand for.
 use Rattle.std.specs.Prelude.{ℕ, ◌+◌, ◌/◌, ◌%◌, ◌==◌, if◌then◌else◌, List, [], ◌∷◌, Option, Some, None, is_some, count_by, slice_set}
 use Rattle.std.specs.Option.{option_map, option_and_then}
-use Rattle.machine_state.specs.Memory.{Memory, Swap}
+use Rattle.machine_state.specs.Memory.{page_size, Memory, Swap}
 use Rattle.guest_pages.specs.declared.entry.Entry.{Entry}
 use Rattle.guest_pages.specs.declared.entry.Mark.{Mark}
 use Rattle.guest_pages.specs.Entry.{is_resident, is_in_frame, mark_in, place_byte, entry_with}
@@ -36,7 +36,7 @@ seat_byte swap (Some seat) at = place_byte (swap seat.slot) seat.entry.place at
 
 -- the byte at an address, 0 where no page is mapped; a page on the swap stands there at the number of its slot
 unfoldable pub byte_of : PagesValue → Swap → ℕ → ℕ
-byte_of pages swap addr = seat_byte swap (seek 0 pages.slots (addr / 4096)) (addr % 4096)
+byte_of pages swap addr = seat_byte swap (seek 0 pages.slots (addr / page_size)) (addr % page_size)
 
 -- the memory that pages and a swap stand for
 unfoldable pub memory_of : PagesValue → Swap → Memory
@@ -60,4 +60,4 @@ slots_with slots (Some seat) at other = slice_set slots seat.slot (Some (entry_w
 
 -- the pages where a page in a frame has other bytes from an address on, and counts as written
 unfoldable pub lent : PagesValue → ℕ → List ℕ → PagesValue
-lent pages addr other = record pages { slots = slots_with pages.slots (seek 0 pages.slots (addr / 4096)) (addr % 4096) other }
+lent pages addr other = record pages { slots = slots_with pages.slots (seek 0 pages.slots (addr / page_size)) (addr % page_size) other }

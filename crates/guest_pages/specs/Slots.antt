@@ -1,6 +1,6 @@
 -- What the pages keep of their slots. No public clause cites this module.
 use Rattle.std.specs.Prelude.{ℕ, ◌≡◌, ◌+◌, ◌<◌, ◌≤◌, ◌^◌, ◌/◌, ◌*◌, ◌%◌, List, true, false, Option, Some, None, slice_index_or, length, count_by}
-use Rattle.machine_state.specs.Memory.{miss_at, first_miss}
+use Rattle.machine_state.specs.Memory.{page_size, miss_at, first_miss}
 use Rattle.machine_state.specs.declared.kinds.Kind.{Kind}
 use Rattle.machine_state.specs.declared.kinds.Miss.TheVariants.{Away}
 use Rattle.std.specs.Option.{option_map}
@@ -66,7 +66,7 @@ pub record CanTake (slots : List (Option Entry)) (page k : ℕ) : Type 0 where
 pub record IsGranted (pages : PagesValue) (kind : Kind) (addr k : ℕ) : Type 0 where
   pub grants : miss_at (perms_in (table_of pages)) kind addr ≡ None
   pub low : addr < 0x800000000000
-  pub seat : IsSeatOf pages.slots (addr / 4096) k
+  pub seat : IsSeatOf pages.slots (addr / page_size) k
 
 -- an access was walked in whole: each byte is allowed, and the first page away, if there is one, is in this slot
 pub record IsWalked (pages : PagesValue) (kind : Kind) (addr len : ℕ) (away : Option ℕ) : Type 0 where

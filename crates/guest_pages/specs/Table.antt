@@ -1,7 +1,7 @@
 -- What the table of the mapped pages says of an access.
 use Rattle.std.specs.Prelude.{ℕ, zero, suc, ◌+◌, ◌/◌, ◌==◌, Bool, false, if◌then◌else◌, Option, Some, None, Result, Ok, Err}
 use Rattle.std.specs.Option.{option_map}
-use Rattle.machine_state.specs.Memory.{Permissions, first_miss, or_else}
+use Rattle.machine_state.specs.Memory.{page_size, Permissions, first_miss, or_else}
 use Rattle.machine_state.specs.declared.kinds.Kind.{Kind}
 use Rattle.machine_state.specs.declared.kinds.Miss.{Miss}
 use Rattle.machine_state.specs.declared.kinds.Miss.TheVariants.{Away}
@@ -28,7 +28,7 @@ away_at (Some m) = if m.resident then None else Some (Away m.slot)
 -- the first page under an access, from its lowest address up, that isn't in a frame
 unfoldable pub first_away : Table → ℕ → ℕ → Option Miss
 first_away table addr zero = None
-first_away table addr (suc len) = or_else (away_at (table (addr / 4096))) (first_away table (addr + 1) len)
+first_away table addr (suc len) = or_else (away_at (table (addr / page_size))) (first_away table (addr + 1) len)
 
 -- what keeps an access from being made now: permissions are looked at for all its bytes before residency
 abbrev pub blocked : Table → Kind → ℕ → ℕ → Option Miss

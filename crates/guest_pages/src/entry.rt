@@ -2,6 +2,7 @@
 ghost use Rattle.std.specs.Prelude.{◌≡◌, ◌≤◌, ◌+◌, None, true, is_some, length, IfSome};
 ghost use Rattle.std.specs.Borrow.{sem};
 ghost use Rattle.std.specs.Option.{option_copied};
+ghost use Rattle.machine_state.specs.Memory.{page_size};
 ghost use Rattle.guest_pages.specs.Entry.{is_resident, place_marked, place_frame, holds_page, slot_permits, slot_frame, is_in_frame, IsLent, IsZeros, IsZeroedSlot, slot_protected};
 ghost use Rattle.guest_pages.specs.EntryLends.{LendsPlace, LendsEntry, LendsSlot};
 
@@ -74,7 +75,7 @@ impl Place {
 
     fn lend(&mut self, at: usize, len: usize) -> &mut [u8]
         requires resident { is_resident self.old ≡ true }
-        requires fits { at + len ≤ 4096 }
+        requires fits { at + len ≤ page_size }
         ensures* writes_back { sem 𝓛 (LendsPlace self.entry at result) }
         ensures len { length result.now ≡ len }
         ensures lent { IfSome (place_frame self.old) (IsLent at len result.now) }
@@ -98,7 +99,7 @@ pub struct Entry {
 impl Entry {
     pub(crate) fn lend(&mut self, at: usize, len: usize) -> &mut [u8]
         requires resident { is_resident self.old.place ≡ true }
-        requires fits { at + len ≤ 4096 }
+        requires fits { at + len ≤ page_size }
         ensures* writes_back { sem 𝓛 (LendsEntry self.entry at result) }
         ensures len { length result.now ≡ len }
         ensures lent { IfSome (place_frame self.old.place) (IsLent at len result.now) }
@@ -137,7 +138,7 @@ pub(crate) fn frame_of(slot: &Option<Entry>) -> Option<&Frame>
 
 pub(crate) fn lend(slot: &mut Option<Entry>, at: usize, len: usize) -> &mut [u8]
     requires resident { is_in_frame slot.old ≡ true }
-    requires fits { at + len ≤ 4096 }
+    requires fits { at + len ≤ page_size }
     ensures* writes_back { sem 𝓛 (LendsSlot slot.entry at result) }
     ensures len { length result.now ≡ len }
     ensures lent { IfSome (slot_frame slot.old) (IsLent at len result.now) }

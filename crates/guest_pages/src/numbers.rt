@@ -2,7 +2,7 @@
 ghost use Rattle.std.specs.Prelude.{◌≡◌, ◌+◌, ◌*◌, ◌%◌, ◌^◌, ◌<◌, ◌≤◌, None, IsTrue, length};
 ghost use Rattle.byteorder.specs.Endian.{little_number};
 ghost use Rattle.gpr_flags.specs.Registers.{is_size};
-ghost use Rattle.machine_state.specs.Memory.{Swap, number_at, number_bytes};
+ghost use Rattle.machine_state.specs.Memory.{page_size, Swap, number_at, number_bytes};
 ghost use Rattle.guest_pages.specs.Table.{blocked};
 ghost use Rattle.guest_pages.specs.Pages.{table_of, byte_of};
 ghost use Rattle.guest_pages.specs.Changes.{IsWritten};
@@ -10,7 +10,7 @@ ghost use Rattle.guest_pages.specs.Changes.{IsWritten};
 use crate::pages::Pages;
 use byteorder::{ByteOrder, LittleEndian};
 use gpr_flags::low;
-use machine_state::Kind;
+use machine_state::{Kind, PAGE_SIZE};
 
 // The number in the first bytes.
 fn number(bytes: &[u8], size: u8) -> u64
@@ -31,7 +31,7 @@ impl Pages {
     // The number in bytes of one page.
     fn load_within(&self, addr: u64, size: u8, kind: Kind) -> u64
         requires size { IsTrue (is_size size) }
-        requires one_page { addr % 4096 + size ≤ 4096 }
+        requires one_page { addr % page_size + size ≤ page_size }
         requires ready { blocked (table_of self.now) kind addr size ≡ None }
         ensures value { (w : Swap) → result ≡ number_at (byte_of self.now w) addr size }
         ensures fits { result < 2 ^ (8 * size) }
@@ -63,7 +63,7 @@ impl Pages {
         ensures value { (w : Swap) → result ≡ number_at (byte_of self.now w) addr size }
         ensures fits { result < 2 ^ (8 * size) }
     {
-        if addr % 4096 + u64::from(size) <= 4096 {
+        if addr % PAGE_SIZE + u64::from(size) <= PAGE_SIZE {
             self.load_within(addr, size, kind)
         } else {
             self.load_across(addr, size, kind)
@@ -73,7 +73,7 @@ impl Pages {
     // Writes bytes of one page.
     fn store_within(&mut self, addr: u64, bytes: &[u8])
         requires some { 0 < length bytes.now }
-        requires one_page { addr % 4096 + length bytes.now ≤ 4096 }
+        requires one_page { addr % page_size + length bytes.now ≤ page_size }
         requires ready { blocked (table_of self.old) Kind.Write addr (length bytes.now) ≡ None }
         ensures { IsWritten self.old self.new addr bytes.now }
     {
@@ -104,7 +104,7 @@ impl Pages {
             low(8 * u32::from(size), u128::from(number)),
             len,
         );
-        if addr % 4096 + u64::from(size) <= 4096 {
+        if addr % PAGE_SIZE + u64::from(size) <= PAGE_SIZE {
             self.store_within(addr, &bytes[..len]);
         } else {
             self.store_across(addr, &bytes[..len]);

@@ -3,14 +3,14 @@ ghost use Rattle.std.specs.Prelude.{◌≡◌, ◌<◌, ◌≤◌, ◌+◌, ◌-
 ghost use Rattle.std.specs.Option.{option_map};
 ghost use Rattle.std.specs.Vec.{vec_capacity};
 ghost use Rattle.machine_state.specs.declared.kinds.Miss.TheVariants.{Away};
-ghost use Rattle.machine_state.specs.Memory.{miss_at, or_else};
+ghost use Rattle.machine_state.specs.Memory.{page_size, miss_at, or_else};
 ghost use Rattle.guest_pages.specs.Entry.{is_in_frame};
 ghost use Rattle.guest_pages.specs.Slots.{bucket_of, list_of as home_of};
 
 use crate::entry::{Entry, blank, frame_of, grants, holds, lend, protect, release, zero};
 use crate::frame::Frame;
 use crate::lists::{Lists, vacant};
-use machine_state::{Kind, Miss, Perms};
+use machine_state::{Kind, Miss, PAGE_SIZE, Perms};
 use std::alloc::{AllocError, Global};
 use std::marker::Model;
 
@@ -104,7 +104,7 @@ impl Pages {
         ensures { MatchResult result (IsGranted self.now kind addr)
             (λ miss. miss_at (perms_in (table_of self.now)) kind addr ≡ Some miss) }
     {
-        match self.seat(addr / 4096) {
+        match self.seat(addr / PAGE_SIZE) {
             Some(k) => {
                 if grants(&self.slots[k as usize], kind) {
                     Ok(k)
@@ -139,7 +139,7 @@ impl Pages {
         while left > 0 {
             let k = self.locate(at, kind)?;
             away = earlier(away, self.away_slot(k));
-            let here = 4096 - at % 4096;
+            let here = PAGE_SIZE - at % PAGE_SIZE;
             if left <= here {
                 return Ok(away);
             }
@@ -175,7 +175,7 @@ impl Pages {
     /// The bytes from `addr` on, within one page.
     pub fn view(&self, addr: u64, len: usize, kind: Kind) -> Result<&[u8], Miss>
         requires some { 0 < len }
-        requires one_page { addr % 4096 + len ≤ 4096 }
+        requires one_page { addr % page_size + len ≤ page_size }
         ensures answer { MatchResult result (λ _. blocked (table_of self.now) kind addr len ≡ None)
             (λ miss. blocked (table_of self.now) kind addr len ≡ Some miss) }
         ensures low { OnOk result (addr + len ≤ 0x800000000000) }
@@ -183,7 +183,7 @@ impl Pages {
     {
         let k = self.locate(addr, kind)?;
         match frame_of(&self.slots[k as usize]) {
-            Some(frame) => Ok(frame.part((addr % 4096) as usize, len)),
+            Some(frame) => Ok(frame.part((addr % PAGE_SIZE) as usize, len)),
             None => Err(Miss::Away(k)),
         }
     }
@@ -191,7 +191,7 @@ impl Pages {
     /// Lends the bytes from `addr` on, within one page, to be written. The page counts as written.
     pub fn lend(&mut self, addr: u64, len: usize) -> Result<&mut [u8], Miss>
         requires some { 0 < len }
-        requires one_page { addr % 4096 + len ≤ 4096 }
+        requires one_page { addr % page_size + len ≤ page_size }
         ensures len { IfOk result (λ part. length part.now ≡ len) }
         ensures bytes { IfOk result (λ part. IsShown self.old addr len part.now) }
         ensures written { OnOk result ((bytes : List ℕ) → length bytes ≡ len
@@ -206,7 +206,7 @@ impl Pages {
     /// Lends the bytes from `addr` on, within one page that is ready to be written. The page counts as written.
     pub fn lend_ready(&mut self, addr: u64, len: usize) -> &mut [u8]
         requires some { 0 < len }
-        requires one_page { addr % 4096 + len ≤ 4096 }
+        requires one_page { addr % page_size + len ≤ page_size }
         requires ready { blocked (table_of self.old) Kind.Write addr len ≡ None }
         ensures* writes_back { sem 𝓛 (LendsPages self.entry addr result) }
         ensures len { length result.now ≡ len }
@@ -214,10 +214,10 @@ impl Pages {
         ensures written { (bytes : List ℕ) → length bytes ≡ len
             → IsWritten self.old (lent self.old addr bytes) addr bytes }
     {
-        match self.seat(addr / 4096) {
+        match self.seat(addr / PAGE_SIZE) {
             Some(k) => {
                 let slot = &mut self.slots[k as usize];
-                lend(slot, (addr % 4096) as usize, len)
+                lend(slot, (addr % PAGE_SIZE) as usize, len)
             }
             None => unreachable!(),
         }
@@ -334,23 +334,23 @@ impl Pages {
 
     /// Maps the page at the address `addr` as zeros; what was mapped there is gone.
     pub fn map_page(&mut self, addr: u64, perms: Perms) -> Result<(), Full>
-        requires page { addr % 4096 ≡ 0 }
+        requires page { addr % page_size ≡ 0 }
         requires low { addr < 0x800000000000 }
-        ensures ok { OnOk result (IsMapped self.old self.new (addr / 4096) perms.0) }
-        ensures full { IsErr result ↔ ((table_of self.old (addr / 4096) ≡ None)
+        ensures ok { OnOk result (IsMapped self.old self.new (addr / page_size) perms.0) }
+        ensures full { IsErr result ↔ ((table_of self.old (addr / page_size) ≡ None)
             × (mapped_count self.old ≡ length self.old.slots)) }
         ensures err { OnErr result (self.new ≡ self.old) }
 
         // A page that was in a frame keeps it, and another gets one where one is free.
-        ensures framed { OnOk result (in_frame (table_of self.new (addr / 4096))
-            ≡ (in_frame (table_of self.old (addr / 4096))
+        ensures framed { OnOk result (in_frame (table_of self.new (addr / page_size))
+            ≡ (in_frame (table_of self.old (addr / page_size))
             || nat_lt (resident_count self.old) self.old.frames)) }
         ensures resident { self.old.frames ≡ length self.old.slots → AllResident self.old → AllResident self.new }
         ensures room { OnOk result (resident_count self.new ≤ self.new.frames) }
     {
-        match self.seat_for(addr / 4096) {
+        match self.seat_for(addr / PAGE_SIZE) {
             Some(k) => {
-                self.fill(k, addr / 4096, perms);
+                self.fill(k, addr / PAGE_SIZE, perms);
                 Ok(())
             }
             None => Err(Full),
@@ -359,13 +359,13 @@ impl Pages {
 
     /// Gives the mapped page at the address `addr` these permissions.
     pub fn set_perms(&mut self, addr: u64, perms: Perms)
-        requires page { addr % 4096 ≡ 0 }
+        requires page { addr % page_size ≡ 0 }
         requires low { addr < 0x800000000000 }
-        requires mapped { IsSome (table_of self.old (addr / 4096)) }
-        ensures protected { IsProtected self.old self.new (addr / 4096) perms.0 }
+        requires mapped { IsSome (table_of self.old (addr / page_size)) }
+        ensures protected { IsProtected self.old self.new (addr / page_size) perms.0 }
         ensures resident { AllResident self.old → AllResident self.new }
     {
-        match self.seat(addr / 4096) {
+        match self.seat(addr / PAGE_SIZE) {
             Some(k) => protect(&mut self.slots[k as usize], perms),
             None => unreachable!(),
         }
@@ -374,26 +374,26 @@ impl Pages {
     /// Unmaps the page at the address `addr`, if it is mapped.
     #[tactic(auto, using(crate::proofs::Protects::unmapped_resident))]
     pub fn unmap_page(&mut self, addr: u64)
-        requires page { addr % 4096 ≡ 0 }
+        requires page { addr % page_size ≡ 0 }
         requires low { addr < 0x800000000000 }
-        ensures unmapped { IsUnmapped self.old self.new (addr / 4096) }
-        ensures absent { table_of self.old (addr / 4096) ≡ None → self.new ≡ self.old }
+        ensures unmapped { IsUnmapped self.old self.new (addr / page_size) }
+        ensures absent { table_of self.old (addr / page_size) ≡ None → self.new ≡ self.old }
         ensures resident { AllResident self.old → AllResident self.new }
     {
-        if let Some(k) = self.seat(addr / 4096) {
-            self.empty(k, addr / 4096);
+        if let Some(k) = self.seat(addr / PAGE_SIZE) {
+            self.empty(k, addr / PAGE_SIZE);
         }
     }
 
     /// Fills the mapped page at the address `addr` with zeros.
     pub fn zero_page(&mut self, addr: u64)
-        requires page { addr % 4096 ≡ 0 }
+        requires page { addr % page_size ≡ 0 }
         requires low { addr < 0x800000000000 }
-        requires mapped { IsSome (table_of self.old (addr / 4096)) }
-        ensures zeroed { IsZeroed self.old self.new (addr / 4096) }
+        requires mapped { IsSome (table_of self.old (addr / page_size)) }
+        ensures zeroed { IsZeroed self.old self.new (addr / page_size) }
         ensures resident { AllResident self.old → AllResident self.new }
     {
-        match self.seat(addr / 4096) {
+        match self.seat(addr / PAGE_SIZE) {
             Some(k) => zero(&mut self.slots[k as usize]),
             None => unreachable!(),
         }
@@ -432,9 +432,9 @@ fn chunk_end(at: u64, done: usize, len: usize) -> usize
     requires { done < len }
     ensures further { done < result }
     ensures within { result ≤ len }
-    ensures one_page { at % 4096 + (result - done) ≤ 4096 }
+    ensures one_page { at % page_size + (result - done) ≤ page_size }
 {
-    let page_left = 4096 - (at % 4096) as usize;
+    let page_left = (PAGE_SIZE - at % PAGE_SIZE) as usize;
     if len - done <= page_left {
         len
     } else {

@@ -3,7 +3,7 @@ use Rattle.std.proofs.Common.{◌≡◌, ◌≢◌, ℕ, ◌+◌, ◌*◌, ◌�
 use Rattle.std.proofs.lemmas.Slice.Eq.{bytes_eq-Decides}
 use Rattle.std.specs.Str.{bytes_eq}
 use Rattle.host_edge.proofs.ByteLemmas.{read_above, read_below, read_written}
-use Rattle.host_edge.specs.Files.{Becomes, Held, PutsPage, Stores}
+use Rattle.host_edge.specs.Files.{Becomes, Held, page_len, PutsPage, Stores}
 use Rattle.host_edge.specs.MemHost.{page_in, with_page}
 use Rattle.host_edge.specs.NamedFiles.{NamedFile, file_in, stored, without}
 
@@ -63,20 +63,20 @@ in_order a b differ = grind arith
 
 -- another page than the one that is put is as before
 page_in-with_page_other : (swap : List ℕ) (page : ℕ) (bytes : List ℕ) (other : ℕ) →
-    length bytes ≡ 4096 → page * 4096 + 4096 ≤ length swap → other ≢ page →
+    length bytes ≡ page_len → page * page_len + page_len ≤ length swap → other ≢ page →
     page_in (with_page swap page bytes) other ≡ page_in swap other
 page_in-with_page_other swap page bytes other is_page within differs =
     elim (in_order other page differs) as (λ _. page_in (with_page swap page bytes) other ≡ page_in swap other) [
-      | inl below ↦ read_below swap bytes (page * 4096) (other * 4096) 4096 (omega arith) (omega arith)
-      | inr above ↦ ap (take 4096) (read_above swap bytes (page * 4096) (other * 4096) (omega arith) (omega arith))
+      | inl below ↦ read_below swap bytes (page * page_len) (other * page_len) page_len (omega arith) (omega arith)
+      | inr above ↦ ap (take page_len) (read_above swap bytes (page * page_len) (other * page_len) (omega arith) (omega arith))
     ]
 
 -- a put makes the page the bytes and leaves the others
 pub puts_page : (file : List ℕ → Option (List ℕ)) (swap : List ℕ) (page : ℕ) (bytes : List ℕ) →
-    length bytes ≡ 4096 → page * 4096 + 4096 ≤ length swap →
+    length bytes ≡ page_len → page * page_len + page_len ≤ length swap →
     PutsPage page bytes (record { file = file; page = page_in swap }) (record { file = file; page = page_in (with_page swap page bytes) })
 puts_page file swap page bytes is_page within = record {
-  is_put = read_written swap bytes (page * 4096) 4096 is_page within;
+  is_put = read_written swap bytes (page * page_len) page_len is_page within;
   others = record {
     files = refl;
     pages = λ other differs. page_in-with_page_other swap page bytes other is_page within differs;

@@ -1,7 +1,7 @@
 -- What a host in memory is, and when its calls fail: this program's own.
 use Rattle.std.specs.Prelude.{ℕ, ◌+◌, ◌*◌, Bool, ◌||◌, not, List, ◌++◌, length, take, drop, is_none, nat_lt}
 use Rattle.host_edge.specs.Causes.{Counts, is_listed, no_faults, raised}
-use Rattle.host_edge.specs.Files.{Held}
+use Rattle.host_edge.specs.Files.{Held, page_len}
 use Rattle.host_edge.specs.NamedFiles.{NamedFile, file_in, fits_in, stored}
 
 -- the files, how many bytes their paths and contents may have, how many pages a swap may have and how many the open one has,
@@ -16,13 +16,13 @@ pub record HostState : Type 0 where
   pub calls : ℕ
   pub faults : Counts
 
--- the 4,096 bytes of a page
+-- the bytes of a page
 abbrev pub page_in : List ℕ → ℕ → List ℕ
-page_in swap page = take 4096 (drop (page * 4096) swap)
+page_in swap page = take page_len (drop (page * page_len) swap)
 
 -- the pages once one of them is put
 abbrev pub with_page : List ℕ → ℕ → List ℕ → List ℕ
-with_page swap page bytes = take (page * 4096) swap ++ (bytes ++ drop (page * 4096 + length bytes) swap)
+with_page swap page bytes = take (page * page_len) swap ++ (bytes ++ drop (page * page_len + length bytes) swap)
 
 -- the files and pages that a host in memory tells
 abbrev pub held_by : HostState → Held

@@ -15,9 +15,12 @@ pub struct FileSource<R> {
 }
 
 impl<R: Read> FileSource<R> {
+    ghost use Rattle.host_edge.specs.Moves.{reader_of};
+
     /// A source over this reader, of which no call has failed.
     pub fn new(reader: R) -> FileSource<R>
-        ensures { ⟦<FileSource<R> as Source>⟧.faults result ≡ 0 }
+        ensures reader { reader_of result ≡ reader }
+        ensures faults { ⟦<FileSource<R> as Source>⟧.faults result ≡ 0 }
     {
         FileSource { reader, faults: 0 }
     }
@@ -59,9 +62,12 @@ pub struct FileSink<W> {
 }
 
 impl<W: Write> FileSink<W> {
+    ghost use Rattle.host_edge.specs.Moves.{writer_of};
+
     /// A sink over this writer, of which no call has failed.
     pub fn new(writer: W) -> FileSink<W>
-        ensures { ⟦<FileSink<W> as Sink>⟧.faults result ≡ 0 }
+        ensures writer { writer_of result ≡ writer }
+        ensures faults { ⟦<FileSink<W> as Sink>⟧.faults result ≡ 0 }
     {
         FileSink { writer, faults: 0 }
     }

@@ -23,4 +23,4 @@ pub use file_streams::{FileSink, FileSource};
 pub use mem_host::MemHost;
 pub use mem_sink::MemSink;
 pub use mem_source::MemSource;
-pub use outside::{Failed, Host, HostCall, PAGE, Sink, Source};
+pub use outside::{Failed, Host, HostCall, PAGE_LEN, Sink, Source};

@@ -8,7 +8,7 @@ ghost use Rattle.host_edge.specs.NamedFiles.{fits_in, named, stored};
 use crate::bytes::{copy_front, read_at, write_at, zeros};
 use crate::counts::{Faults, fault, next_fails};
 use crate::mem_files::MemFiles;
-use crate::{Failed, Host, PAGE};
+use crate::{Failed, Host, PAGE_LEN};
 use std::alloc::{AllocError, Global};
 use std::marker::Model;
 
@@ -26,6 +26,7 @@ pub struct MemHost {
 
 impl Model for MemHost {
     ghost use Rattle.std.specs.Prelude.{◌≡◌, ◌*◌, ◌≤◌, vec_len};
+    ghost use Rattle.host_edge.specs.Files.{page_len};
     ghost use Rattle.host_edge.specs.MemHost.{HostState};
 
     ghost Value = { HostState };
@@ -43,7 +44,7 @@ impl Model for MemHost {
       faults = counts_of h.faults;
     } };
 
-    ghost invariant = { λ h. (vec_len h.swap ≡ h.pages * 4096) × (h.opened ≤ h.pages) };
+    ghost invariant = { λ h. (vec_len h.swap ≡ h.pages * page_len) × (h.opened ≤ h.pages) };
 }
 
 impl MemHost {
@@ -64,7 +65,7 @@ impl MemHost {
         held.fill(&files);
         Ok(MemHost {
             files: held,
-            swap: zeros(alloc, pages as usize * PAGE)?,
+            swap: zeros(alloc, pages as usize * PAGE_LEN)?,
             pages,
             opened: 0,
             fail: Vec::from_slice(alloc, fail)?,
@@ -174,7 +175,7 @@ impl Host for MemHost {
         if next_fails(&mut self.calls, &self.fail) {
             return Err(fault(&mut self.faults.swap_get));
         }
-        read_at(&self.swap, page as usize * PAGE, into);
+        read_at(&self.swap, page as usize * PAGE_LEN, into);
         Ok(())
     }
 
@@ -200,7 +201,7 @@ impl Host for MemHost {
         if next_fails(&mut self.calls, &self.fail) {
             return Err(fault(&mut self.faults.swap_put));
         }
-        write_at(&mut self.swap, page as usize * PAGE, from);
+        write_at(&mut self.swap, page as usize * PAGE_LEN, from);
         Ok(())
     }
 }

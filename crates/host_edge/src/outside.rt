@@ -5,7 +5,7 @@ ghost use Rattle.host_edge.specs.Streams.{Puts, Takes};
 ghost use Rattle.host_edge.specs.Files.{Held, page_len, LoadMeets, StoreMeets, OpenMeets, GetMeets, PutMeets};
 
 /// The length of a page of the swap, in bytes.
-pub const PAGE: usize = 4096;
+pub const PAGE_LEN: usize = 4096;
 
 /// A call of the outside that failed. The object counts it.
 #[derive(Clone, Copy, Debug, PartialEq, Eq)]

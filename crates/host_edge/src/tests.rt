@@ -6,7 +6,8 @@ ghost use Rattle.host_edge.specs.NamedFiles.{fits_in, named};
 use crate::bytes::zeros;
 use crate::transfers::{fill, read_file, read_page, write_page};
 use crate::{
-    Failed, FileHost, FileSink, FileSource, Host, MemHost, MemSink, MemSource, PAGE, Sink, Source,
+    Failed, FileHost, FileSink, FileSource, Host, MemHost, MemSink, MemSource, PAGE_LEN, Sink,
+    Source,
 };
 use std::alloc::{AllocError, Global};
 use std::fs::{self, File};
@@ -61,7 +62,7 @@ fn file(alloc: Global, path: &str, bytes: &[u8]) -> Result<(String, Vec<u8>), Al
 fn page_of(alloc: Global, byte: u8) -> Result<Vec<u8>, AllocError>
     ensures { IfOk result (λ page. vec_len page ≡ page_len) }
 {
-    let mut page = zeros(alloc, PAGE)?;
+    let mut page = zeros(alloc, PAGE_LEN)?;
     for place in page.iter_mut() {
         *place = byte;
     }
@@ -297,12 +298,12 @@ fn a_buffer_is_filled_from_parts_or_not_at_all(rt: HostRuntime) -> Result<(), Fa
 #[test]
 fn pages_lie_one_behind_the_other(rt: HostRuntime) -> Result<(), Fail> {
     let alloc = rt.alloc();
-    let mut file = Cursor::new(zeros(alloc, 2 * PAGE + 100)?);
+    let mut file = Cursor::new(zeros(alloc, 2 * PAGE_LEN + 100)?);
     let page = page_of(alloc, 5)?;
     let mut back = page_of(alloc, 9)?;
     write_page(&mut file, 1, &page)?;
     read_page(&mut file, 0, back.as_mut_slice())?;
-    assert_eq!(rt; back.as_slice(), zeros(alloc, PAGE)?.as_slice());
+    assert_eq!(rt; back.as_slice(), zeros(alloc, PAGE_LEN)?.as_slice());
     read_page(&mut file, 1, back.as_mut_slice())?;
     assert_eq!(rt; back.as_slice(), page.as_slice());
     let cut = read_page(&mut file, 2, back.as_mut_slice());

@@ -1,11 +1,11 @@
 // Loops over the reads and writes of std, each of which may move only a part.
 ghost use Rattle.std.specs.Prelude.{◌≡◌, ◌+◌, ◌*◌, ◌≤◌, IfOk, IfSome, OnOk, drop, length};
-ghost use Rattle.std.specs.Io.KnownBytes.{Consumes, ReadConsumes};
+ghost use Rattle.std.specs.Io.KnownBytes.{Consumes, Keeps, ReadConsumes};
 ghost use Rattle.std.specs.Io.Seek.{MovesTo};
 ghost use Rattle.host_edge.specs.Files.{Loads, page_len};
 ghost use Rattle.host_edge.specs.Moves.{Reads, ReadsAt, Writes, WritesAt};
 
-use crate::PAGE;
+use crate::PAGE_LEN;
 use std::io::{self, Read, Seek, SeekFrom, Write};
 
 /// Reads once, at most a page, to the front of a buffer whose rest stays, and answers how many bytes came, 0 only at the
@@ -15,8 +15,8 @@ pub fn read_part<R: Read>(reader: &mut R, into: &mut [u8]) -> io::Result<usize>
     ensures rest { IfOk result (λ count. drop count into.new ≡ drop count into.old) }
     ensures bytes { ReadConsumes (R.remaining reader.old) (R.remaining reader.new) result into.new }
 {
-    let mut part = [0; PAGE];
-    let most = into.len().min(PAGE);
+    let mut part = [0; PAGE_LEN];
+    let most = into.len().min(PAGE_LEN);
     let count = reader.read(&mut part[..most])?;
     into[..count].copy_from_slice(&part[..count]);
     Ok(count)
@@ -85,14 +85,16 @@ pub fn write_whole<W: Write>(writer: &mut W, bytes: &[u8]) -> io::Result<()>
 
 /// Goes to where a page starts.
 fn seek_page<F: Seek>(file: &mut F, page: u32) -> io::Result<u64>
-    ensures { MovesTo (F.stream_position file.old) (F.stream_position file.new) (page * page_len) result }
+    ensures moves { MovesTo (F.stream_position file.old) (F.stream_position file.new) (page * page_len) result }
+    ensures kept { Keeps (F.stream_bytes file.old) (F.stream_bytes file.new) }
 {
-    file.seek(SeekFrom::Start(u64::from(page) * PAGE as u64))
+    file.seek(SeekFrom::Start(u64::from(page) * PAGE_LEN as u64))
 }
 
 /// Reads a page of a file.
 pub fn read_page<F: Read + Seek>(file: &mut F, page: u32, into: &mut [u8]) -> io::Result<()>
-    ensures { OnOk result (ReadsAt F.stream_position F.remaining file.old file.new (page * page_len) into.new) }
+    ensures { OnOk result (ReadsAt F.stream_position F.stream_bytes F.remaining
+        file.old file.new (page * page_len) into.new) }
 {
     match seek_page(file, page) {
         Ok(_) => fill(file, into),
@@ -102,7 +104,8 @@ pub fn read_page<F: Read + Seek>(file: &mut F, page: u32, into: &mut [u8]) -> io
 
 /// Writes a page of a file.
 pub fn write_page<F: Write + Seek>(file: &mut F, page: u32, from: &[u8]) -> io::Result<()>
-    ensures { OnOk result (WritesAt F.stream_position F.contents file.old file.new (page * page_len) from.now) }
+    ensures { OnOk result (WritesAt F.stream_position F.stream_bytes F.contents
+        file.old file.new (page * page_len) from.now) }
 {
     match seek_page(file, page) {
         Ok(_) => write_whole(file, from),

@@ -5,7 +5,7 @@ use Rattle.std.proofs.lemmas.Bool.{cases_lt, le-leb, lt-leb, lt-ltb, le-ltb}
 use Rattle.machine_state.specs.declared.kinds.Kind.{Kind}
 use Rattle.machine_state.specs.declared.kinds.Miss.{Miss}
 use Rattle.machine_state.specs.declared.kinds.Miss.TheVariants.{Away, Denied, NonCanonical}
-use Rattle.machine_state.specs.Memory.{Permissions, permits, is_noncanonical, miss_in, miss_at, or_else, first_miss, bytes_at, written}
+use Rattle.machine_state.specs.Memory.{page_size, Permissions, permits, is_noncanonical, miss_in, miss_at, or_else, first_miss, bytes_at, written}
 
 pub or_else-assoc : (a b c : Option Miss) → or_else a (or_else b c) ≡ or_else (or_else a b) c
 or_else-assoc None b c = refl
@@ -77,7 +77,7 @@ unfolding first_miss
 first_miss_never_away perms kind addr zero slot h = cc
 first_miss_never_away perms kind addr (suc len) slot h =
     either (miss_at perms kind addr) (first_miss perms kind (addr + 1) len)
-    (at_never_away (is_noncanonical addr) (perms (addr / 4096)) kind addr slot)
+    (at_never_away (is_noncanonical addr) (perms (addr / page_size)) kind addr slot)
     (first_miss_never_away perms kind (addr + 1) len slot) h
   where
     either : (a b : Option Miss) → (a ≡ Some (Away slot) → ⊥) → (b ≡ Some (Away slot) → ⊥) → or_else a b ≡ Some (Away slot) → ⊥
@@ -97,7 +97,7 @@ allowed_case : (b : Bool) (page : Option ℕ) (kind : Kind) (addr other : ℕ) �
 allowed_case true page kind addr other h = cc
 allowed_case false page kind addr other h = allowed_in page kind addr other h
 
-is_noncanonical_page : (addr other : ℕ) → addr / 4096 ≡ other / 4096 → is_noncanonical addr ≡ is_noncanonical other
+is_noncanonical_page : (addr other : ℕ) → addr / page_size ≡ other / page_size → is_noncanonical addr ≡ is_noncanonical other
 is_noncanonical_page addr other same = ⊎_elim
     (λ (low : addr < 0x800000000000). let too : other < 0x800000000000 = omega arith in
     rw (lt-leb (2 ^ 47) addr low, lt-leb (2 ^ 47) other too) refl)
@@ -112,13 +112,13 @@ is_noncanonical_page addr other same = ⊎_elim
     (cases_lt addr 0x800000000000)
 
 -- a page that allows an access to one of its bytes allows it to each
-pub allowed_along : (perms : Permissions) (kind : Kind) (addr other : ℕ) → addr / 4096 ≡ other / 4096 → miss_at perms kind addr ≡ None
+pub allowed_along : (perms : Permissions) (kind : Kind) (addr other : ℕ) → addr / page_size ≡ other / page_size → miss_at perms kind addr ≡ None
     → miss_at perms kind other ≡ None
 allowed_along perms kind addr other same none =
-    rw (← is_noncanonical_page addr other same, ← same) (allowed_case (is_noncanonical addr) (perms (addr / 4096)) kind addr other none)
+    rw (← is_noncanonical_page addr other same, ← same) (allowed_case (is_noncanonical addr) (perms (addr / page_size)) kind addr other none)
 
 -- the first bytes of a page that allows the access to one of them are passed over
-pub first_miss_skip : (perms : Permissions) (kind : Kind) (addr k n : ℕ) → addr % 4096 + k ≤ 4096 → miss_at perms kind addr ≡ None
+pub first_miss_skip : (perms : Permissions) (kind : Kind) (addr k n : ℕ) → addr % page_size + k ≤ page_size → miss_at perms kind addr ≡ None
     → first_miss perms kind addr (k + n) ≡ first_miss perms kind (addr + k) n
 unfolding first_miss
 first_miss_skip perms kind addr zero n within none = rw (zero-add, add-zero) refl
@@ -133,7 +133,7 @@ first_miss_skip perms kind addr (suc (suc k)) n within none =
     (first_miss_skip perms kind (addr + 1) (suc k) n (omega arith) (allowed_along perms kind addr (addr + 1) (omega arith) none))
 
 -- an access within one page that allows it to its first byte
-pub first_miss_within : (perms : Permissions) (kind : Kind) (addr len : ℕ) → addr % 4096 + len ≤ 4096 → miss_at perms kind addr ≡ None
+pub first_miss_within : (perms : Permissions) (kind : Kind) (addr len : ℕ) → addr % page_size + len ≤ page_size → miss_at perms kind addr ≡ None
     → first_miss perms kind addr len ≡ None
 first_miss_within perms kind addr len within none =
     let all : len ≡ len + 0 = sym (add-zero len) in

@@ -7,11 +7,15 @@ use Rattle.machine_state.specs.declared.kinds.Kind.TheVariants.{Read, Write, Exe
 use Rattle.machine_state.specs.declared.kinds.Miss.{Miss}
 use Rattle.machine_state.specs.declared.kinds.Miss.TheVariants.{Unmapped, Denied, NonCanonical}
 
+-- how many bytes a page has (SDM volume 3, 4.2)
+abbrev pub page_size : ℕ
+page_size = 4096
+
 -- the permissions of the mapped pages, by page number; None where no page is mapped
 abbrev pub Permissions : Type 0
 Permissions = ℕ → Option ℕ
 
--- guest memory: pages of 4,096 bytes with their permissions, and the byte at each address, 0 where no page is mapped
+-- guest memory: pages with their permissions, and the byte at each address, 0 where no page is mapped
 pub record Memory : Type 0 where
   pub perms : Permissions
   pub byte : ℕ → ℕ
@@ -37,7 +41,7 @@ miss_in (Some perms) kind addr = if permits kind perms then None else Some (Deni
 
 -- why the byte at an address can't be had, if it can't
 abbrev pub miss_at : Permissions → Kind → ℕ → Option Miss
-miss_at perms kind addr = if is_noncanonical addr then Some (NonCanonical addr) else miss_in (perms (addr / 4096)) kind addr
+miss_at perms kind addr = if is_noncanonical addr then Some (NonCanonical addr) else miss_in (perms (addr / page_size)) kind addr
 
 -- the first of two misses
 abbrev pub or_else : Option Miss → Option Miss → Option Miss
@@ -74,7 +78,7 @@ written byte addr bytes at = if nat_le addr at && nat_lt at (addr + length bytes
 
 -- the bytes of memory after a page is filled with zeros
 abbrev pub zeroed : (ℕ → ℕ) → ℕ → ℕ → ℕ
-zeroed byte page at = if at / 4096 == page then 0 else byte at
+zeroed byte page at = if at / page_size == page then 0 else byte at
 
 -- what a swap holds: the bytes of each of its pages, by number
 abbrev pub Swap : Type 0
@@ -84,14 +88,14 @@ Swap = ℕ → List ℕ
 abbrev pub AreBytes : List ℕ → Type 0
 AreBytes bytes = All (λ byte. byte < 256) bytes
 
--- each page on a swap has 4,096 bytes
+-- each page on a swap is whole
 pub record IsSwap (swap : Swap) : Type 0 where
-  pub whole : (number : ℕ) → length (swap number) ≡ 4096
+  pub whole : (number : ℕ) → length (swap number) ≡ page_size
   pub bytes : (number : ℕ) → AreBytes (swap number)
 
 -- guest memory as it can be: pages lie in the lower half of the address space (SDM volume 1, 3.3.7.1), permissions are sets of
 -- the three, and a byte is below 256, and 0 where no page is mapped
 pub record IsMemory (memory : Memory) : Type 0 where
-  pub pages : (page : ℕ) → IfSome (memory.perms page) (λ perms. (page < 2 ^ 47 / 4096) × (perms < 8))
+  pub pages : (page : ℕ) → IfSome (memory.perms page) (λ perms. (page < 2 ^ 47 / page_size) × (perms < 8))
   pub bytes : (addr : ℕ) → memory.byte addr < 256
-  pub zeros : (addr : ℕ) → memory.perms (addr / 4096) ≡ None → memory.byte addr ≡ 0
+  pub zeros : (addr : ℕ) → memory.perms (addr / page_size) ≡ None → memory.byte addr ≡ 0

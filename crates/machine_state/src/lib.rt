@@ -4,8 +4,10 @@
 
 mod kinds;
 mod laws;
+mod pages;
 mod permissions;
 
 pub use kinds::{Access, GuestEnd, Kind, Miss, Stop};
 pub use laws::initial_law;
+pub use pages::{PAGE_SIZE, page_size_law};
 pub use permissions::Perms;

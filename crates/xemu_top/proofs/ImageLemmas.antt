@@ -5,7 +5,7 @@ use Rattle.std.proofs.lemmas.Bool.Decides.{nat_tests}
 use Rattle.std.proofs.lemmas.List.{get_or_past}
 use Rattle.machine_state.specs.declared.kinds.Kind.{Kind}
 use Rattle.machine_state.specs.declared.kinds.Kind.TheVariants.{Write}
-use Rattle.machine_state.specs.Memory.{Permissions, Swap, first_miss, miss_at, is_noncanonical, written}
+use Rattle.machine_state.specs.Memory.{page_size, Permissions, Swap, first_miss, miss_at, is_noncanonical, written}
 use Rattle.machine_state.proofs.MemoryLemmas.{first_miss-suc, first_miss-zero, written_below, written_in, written_above}
 use Rattle.guest_pages.specs.Table.{perms_in}
 use Rattle.guest_pages.specs.Pages.{PagesValue, table_of, byte_of, memory_of}
@@ -27,9 +27,9 @@ pub image_writable : (perms : Permissions) (len : ℕ) → len ≤ 67108864 → 
     → first_miss perms Write 4194304 len ≡ None
 image_writable perms len fits are = first_miss-each perms Write 4194304 len (λ i h.
     let low : is_noncanonical (4194304 + i) ≡ false = rw (lt-leb (2 ^ 47) (4194304 + i) (omega arith)) refl in
-    let page : in_image (page_count len) ((4194304 + i) / 4096) ≡ true =
-    rw (le-leb 1024 ((4194304 + i) / 4096) (omega arith), lt-ltb ((4194304 + i) / 4096) (1024 + page_count len) (omega arith)) refl in
-    rw (low, are ((4194304 + i) / 4096), page) refl)
+    let page : in_image (page_count len) ((4194304 + i) / page_size) ≡ true =
+    rw (le-leb 1024 ((4194304 + i) / page_size) (omega arith), lt-ltb ((4194304 + i) / page_size) (1024 + page_count len) (omega arith)) refl in
+    rw (low, are ((4194304 + i) / page_size), page) refl)
 
 -- memory whose pages are those of an image, and whose bytes were zeros before the image's were written
 pub image_memory-is : (pages : PagesValue) (swap : Swap) (bytes : List ℕ) (zeros : ℕ → ℕ)

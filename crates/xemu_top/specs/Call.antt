@@ -4,7 +4,7 @@ use Rattle.gpr_flags.specs.Registers.{RAX, RDX, RSI, RDI}
 use Rattle.machine_state.specs.declared.kinds.Kind.TheVariants.{Read}
 use Rattle.machine_state.specs.declared.kinds.GuestEnd.{GuestEnd}
 use Rattle.machine_state.specs.declared.kinds.GuestEnd.TheVariants.{Exit}
-use Rattle.machine_state.specs.Memory.{Memory, first_miss, bytes_at}
+use Rattle.machine_state.specs.Memory.{page_size, Memory, first_miss, bytes_at}
 use Rattle.machine_state.specs.State.{State}
 use Rattle.machine_state.specs.World.{World, Descriptor, Input, Output, ErrorOutput, Opened}
 
@@ -73,7 +73,7 @@ write_to None addr count w = record w { state = answered w.state bad_descriptor 
 
 -- lengths above this count as this (MAX_RW_COUNT of Linux)
 abbrev pub longest_transfer : ℕ
-longest_transfer = 2 ^ 31 - 4096
+longest_transfer = 2 ^ 31 - page_size
 
 -- write, call 1: of the descriptor only the low 32 bits count
 abbrev pub write_call : World → World

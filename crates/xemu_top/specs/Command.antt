@@ -6,7 +6,7 @@ use Rattle.byteorder.specs.Endian.{little_number}
 use Rattle.machine_state.specs.declared.kinds.GuestEnd.{GuestEnd}
 use Rattle.host_edge.specs.declared.outside.HostCall.{HostCall}
 use Rattle.host_edge.specs.declared.outside.HostCall.TheVariants.{Load, Store, SwapOpen, SwapGet, SwapPut, Take, PutOut, PutErr}
-use Rattle.machine_state.specs.Memory.{Memory}
+use Rattle.machine_state.specs.Memory.{page_size, Memory}
 use Rattle.gpr_flags.specs.Flags.{no_flags}
 use Rattle.machine_state.specs.State.{State, initial_extended}
 use Rattle.machine_state.specs.World.{World, default_action, no_alternate, first_descriptors}
@@ -86,7 +86,7 @@ entry_of bytes = number_from bytes 24
 
 -- how many pages hold so many bytes
 abbrev pub page_count : ℕ → ℕ
-page_count len = (len + 4095) / 4096
+page_count len = (len + (page_size - 1)) / page_size
 
 -- whether a page is one of so many from page 400H on, where the image stands
 abbrev pub in_image : ℕ → ℕ → Bool
@@ -119,8 +119,8 @@ first_world bytes on = record {
   pages = default_pages;
   cap = default_cap;
   of_file = in_image (page_count (length bytes));
-  heap_start = image_base + 4096 * page_count (length bytes);
-  break_at = image_base + 4096 * page_count (length bytes);
+  heap_start = image_base + page_size * page_count (length bytes);
+  break_at = image_base + page_size * page_count (length bytes);
   actions = λ signal. default_action;
   blocked = 0;
   alternate = no_alternate;

@@ -20,6 +20,16 @@ use Rattle.xemu_top.specs.Command.{HasSignal}
 abbrev pub Worked : Type 0
 Worked = Result (Option GuestEnd) HostCall
 
+-- what two sinks tell: the bytes that output and error output were given, where these are told, and how often a put failed
+pub record SinkPair : Type 0 where
+  pub out : Option (List ℕ)
+  pub err : Option (List ℕ)
+  pub out_faults : ℕ
+  pub err_faults : ℕ
+
+abbrev pub sinks : (out : Option (List ℕ)) → (out_faults : ℕ) → (err : Option (List ℕ)) → (err_faults : ℕ) → SinkPair
+sinks out out_faults err err_faults = record { out = out; err = err; out_faults = out_faults; err_faults = err_faults }
+
 -- a stream has these bytes, where it is told
 abbrev pub IsTold : Option (List ℕ) → List ℕ → Type 0
 IsTold None bytes = ⊤
@@ -63,19 +73,12 @@ pub record Reaches (out err : Option (List ℕ)) (base : World) (state : State) 
   pub err_told : IsTold err err_now
   pub meets : Meets (world_at base state out_now err_now)
 
--- what the code does follows this work of the written machine: for every content of the swap, for all bytes on the streams
+-- what the code's work leads to is so related to what stood before: for every content of the swap, for all bytes on the streams
 -- that aren't told, and for every rest of the world in which the first descriptors are open
-abbrev pub FollowsAt : (World → Ran) → Machine → Machine → (out out' err err' : Option (List ℕ)) → Worked → Type 0
-FollowsAt work old new out out' err err' result =
-    (w : Swap) (base : World) (o e : List ℕ) → base.descriptors ≡ first_descriptors → IsTold out o → IsTold err e
-    → Reaches out' err' base (state_of new w)
-    (Follows (world_at base (state_of old w) o e) (work (world_at base (state_of old w) o e)) result)
-
--- the same for a run of so many steps
-abbrev pub RunsAt : ℕ → Machine → Machine → (out out' err err' : Option (List ℕ)) → RunEnd → Type 0
-RunsAt steps old new out out' err err' result =
-    (w : Swap) (base : World) (o e : List ℕ) → base.descriptors ≡ first_descriptors → IsTold out o → IsTold err e
-    → Reaches out' err' base (state_of new w) (Runs (world_at base (state_of old w) o e) steps result)
+abbrev pub LeadsTo : Machine → Machine → SinkPair → SinkPair → (World → World → Type 0) → Type 0
+LeadsTo old new before after Related =
+    (w : Swap) (base : World) (o e : List ℕ) → base.descriptors ≡ first_descriptors → IsTold before.out o → IsTold before.err e
+    → Reaches after.out after.err base (state_of new w) (Related (world_at base (state_of old w) o e))
 
 -- a put that failed has its count, and the other count stays; where no call failed, both stay. No other call is made
 abbrev pub IsCaused : Option HostCall → (out out' err err' : ℕ) → Type 0
@@ -88,6 +91,12 @@ IsCaused (Some SwapOpen) out out' err err' = ⊥
 IsCaused (Some SwapGet) out out' err err' = ⊥
 IsCaused (Some SwapPut) out out' err err' = ⊥
 IsCaused (Some Take) out out' err err' = ⊥
+
+-- the course of some work on two sinks: what they tell before and after it, and the call on them that failed in it, if one did
+pub record Course (before after : SinkPair) (failed : Option HostCall) : Type 0 where
+  pub out_tells : is_some after.out ≡ is_some before.out
+  pub err_tells : is_some after.err ≡ is_some before.err
+  pub cause : IsCaused failed before.out_faults after.out_faults before.err_faults after.err_faults
 
 -- the call on the outside that failed in a piece of work
 abbrev pub failed_in : Worked → Option HostCall
@@ -108,3 +117,15 @@ HasRunSignal end = HasSignal (end_from end)
 abbrev pub SignalFits : Worked → Type 0
 SignalFits (Ok end) = HasRunSignal (run_end end)
 SignalFits (Err call) = ⊤
+
+-- the code does this work as the written machine does, or a put failed on the way
+pub record WorksAs (work : World → Ran) (old new : Machine) (before after : SinkPair) (result : Worked) : Type 0 where
+  pub follows : LeadsTo old new before after (λ from. Follows from (work from) result)
+  pub course : Course before after (failed_in result)
+  pub signal : SignalFits result
+
+-- the code runs so many steps as the written machine does, or a put failed in one of them
+pub record RunsAs (steps : ℕ) (old new : Machine) (before after : SinkPair) (result : RunEnd) : Type 0 where
+  pub follows : LeadsTo old new before after (λ from. Runs from steps result)
+  pub course : Course before after (stopped_by result)
+  pub signal : HasRunSignal result

@@ -16,7 +16,7 @@ use Rattle.xemu_top.specs.Run.{Files, Outside}
 use Rattle.xemu_top.specs.declared.loading.Loaded.{Loaded}
 use Rattle.xemu_top.specs.declared.loading.Loaded.TheVariants.{Whole, Long, Failed}
 use Rattle.xemu_top.specs.Command.{Outcome, command, on_file, on_image, StandsAt, StandsOnFile, StandsOnImage, image_fits, no_command, no_image, status_of}
-use Rattle.xemu_top.specs.Following.{IsTold, IsCaused, end_from}
+use Rattle.xemu_top.specs.Following.{IsTold, end_from}
 
 -- whether an end is the command's own, and no failure of the outside and no want of memory
 abbrev pub is_own : End → Bool
@@ -131,10 +131,14 @@ abbrev pub IsImage : Option (List ℕ) → Type 0
 IsImage None = ⊥
 IsImage (Some bytes) = IsTrue (image_fits bytes)
 
+-- the end isn't that words were refused
+abbrev pub AcceptsWords : End → Type 0
+AcceptsWords end = (fault : _) → end ≡ Words fault → ⊥
+
 -- words that don't fit are refused, and only such words, where their number fits 32 bits
 pub record RefusesWords (count : ℕ) (fit : Bool) (end : End) : Type 0 where
   pub always : count < 2 ^ 32 → fit ≡ false → end ≡ no_command
-  pub only : fit ≡ true → (fault : _) → end ≡ Words fault → ⊥
+  pub only : fit ≡ true → AcceptsWords end
 
 -- a file that isn't an image is refused, whatever memory there is, and only such a file
 pub record RefusesImage (fits : Bool) (end : End) : Type 0 where
@@ -148,10 +152,17 @@ EndsLoad Long end = end ≡ no_image
 EndsLoad Failed end = end ≡ Host (Load 1)
 EndsLoad Loaded.Memory end = end ≡ Memory
 
--- after a load that gave a file, a put that failed has its count; else no put was made
-abbrev pub CausesLoad : Loaded → End → (out out' err err' : ℕ) → Type 0
-CausesLoad (Whole bytes) end out out' err err' = IsCaused (failed_call end) out out' err err'
-CausesLoad other end out out' err err' = (out' ≡ out) × (err' ≡ err)
+-- the put that failed after a load: none is made unless it gave a file
+abbrev pub failed_after : Loaded → End → Option HostCall
+failed_after (Whole bytes) end = failed_call end
+failed_after Long end = None
+failed_after Failed end = None
+failed_after Loaded.Memory end = None
+
+-- an answer has the status of its end, and a machine only where the end is the command's own
+pub record IsAnswer (ended : Ended) : Type 0 where
+  pub status : ended.status ≡ status_of ended.end
+  pub no_machine : is_own ended.end ≡ false → ended.machine ≡ None
 
 -- a machine that a failed call stopped isn't answered
 abbrev pub machine_after : RunEnd → Machine → Option Machine

@@ -1,6 +1,6 @@
 //! The system calls of the guest.
 ghost use Rattle.std.specs.Prelude.{◌≡◌, ◌<◌, ◌≤◌, ◌+◌, ◌%◌, ◌^◌, None, Some, is_some, OnOk, OnErr};
-ghost use Rattle.machine_state.specs.Memory.{Swap, bytes_at, first_miss};
+ghost use Rattle.machine_state.specs.Memory.{page_size, Swap, bytes_at, first_miss};
 ghost use Rattle.machine_state.specs.World.{first_descriptors};
 ghost use Rattle.host_edge.specs.Causes.{Rose};
 ghost use Rattle.host_edge.specs.Streams.{Puts};
@@ -9,14 +9,14 @@ ghost use Rattle.guest_pages.specs.Pages.{table_of, byte_of};
 ghost use Rattle.guest_pages.specs.Changes.{AllResident};
 ghost use Rattle.core_step.specs.Machine.{state_of};
 ghost use Rattle.xemu_top.specs.Call.{answered, put_bytes, put_answer, write_call, write_to as write_to_spec, called, goes_on};
-ghost use Rattle.xemu_top.specs.Following.{FollowsAt, IsCaused, SignalFits, failed_in};
+ghost use Rattle.xemu_top.specs.Following.{WorksAs, sinks};
 ghost use Rattle.xemu_top.specs.Streams.{stream_of, descriptor_of};
 
 use core_step::Machine;
 use gpr_flags::{RAX, RDI, RDX, RSI};
 use guest_pages::{Kind, Pages};
 use host_edge::{Failed, HostCall, Sink};
-use machine_state::GuestEnd;
+use machine_state::{GuestEnd, PAGE_SIZE};
 
 /// EBADF 9, EFAULT 14 and ENOSYS 38, negative, as a register has them.
 const BAD_DESCRIPTOR: u64 = u64::MAX - 9 + 1;
@@ -26,7 +26,7 @@ const BAD_ADDRESS: u64 = u64::MAX - 14 + 1;
 const NO_SUCH_CALL: u64 = u64::MAX - 38 + 1;
 
 /// The most bytes of one transfer.
-const LONGEST_TRANSFER: u64 = 0x7FFF_F000;
+const LONGEST_TRANSFER: u64 = 0x8000_0000 - PAGE_SIZE;
 
 /// The streams that a guest can write to.
 #[derive(Clone, Copy, Debug, PartialEq, Eq)]
@@ -49,7 +49,7 @@ fn stream_of(descriptor: u64) -> Option<Stream>
 /// Puts bytes that lie on one page and may be read.
 fn send_part<K: Sink>(pages: &Pages, addr: u64, len: usize, sink: &mut K) -> Result<(), Failed>
     requires some { 0 < len }
-    requires one_page { addr % 4096 + len ≤ 4096 }
+    requires one_page { addr % page_size + len ≤ page_size }
     requires readable { blocked (table_of pages.now) Kind.Read addr len ≡ None }
     ensures bytes { (w : Swap) → Puts (K.taken sink.old) (K.taken sink.new)
         (bytes_at (byte_of pages.now w) addr len) result }
@@ -75,7 +75,7 @@ fn send<K: Sink>(pages: &Pages, addr: u64, count: u64, sink: &mut K) -> Result<(
     let mut done = 0;
     while done < count {
         let at = addr + done;
-        let part = (count - done).min(4096 - at % 4096);
+        let part = (count - done).min(PAGE_SIZE - at % PAGE_SIZE);
         match send_part(pages, at, part as usize, sink) {
             Ok(()) => {}
             Err(failed) => return Err(failed),
@@ -136,14 +136,11 @@ fn write_stream<O: Sink, E: Sink>(
     err: &mut E,
 ) -> Result<Option<GuestEnd>, HostCall>
     requires { AllResident machine.old.pages }
-    ensures follows { FollowsAt (λ world. goes_on (write_to_spec (Some (descriptor_of stream)) addr count world))
-        machine.old machine.new (O.taken out.old) (O.taken out.new) (E.taken err.old) (E.taken err.new) result }
+    ensures works { WorksAs (λ world. goes_on (write_to_spec (Some (descriptor_of stream)) addr count world)) machine.old machine.new
+        (sinks (O.taken out.old) (O.faults out.old) (E.taken err.old) (E.faults err.old))
+        (sinks (O.taken out.new) (O.faults out.new) (E.taken err.new) (E.faults err.new)) result }
     ensures pages { machine.new.pages ≡ machine.old.pages }
     ensures steps { machine.new.steps ≡ machine.old.steps }
-    ensures out_tells { is_some (O.taken out.new) ≡ is_some (O.taken out.old) }
-    ensures err_tells { is_some (E.taken err.new) ≡ is_some (E.taken err.old) }
-    ensures cause { IsCaused (failed_in result) (O.faults out.old) (O.faults out.new) (E.faults err.old) (E.faults err.new) }
-    ensures signal { SignalFits result }
 {
     match stream {
         Stream::Output => match write_to(machine, addr, count, out) {
@@ -164,14 +161,11 @@ fn write<O: Sink, E: Sink>(
     err: &mut E,
 ) -> Result<Option<GuestEnd>, HostCall>
     requires { AllResident machine.old.pages }
-    ensures follows { FollowsAt (λ world. goes_on (write_call world)) machine.old machine.new
-        (O.taken out.old) (O.taken out.new) (E.taken err.old) (E.taken err.new) result }
+    ensures works { WorksAs (λ world. goes_on (write_call world)) machine.old machine.new
+        (sinks (O.taken out.old) (O.faults out.old) (E.taken err.old) (E.faults err.old))
+        (sinks (O.taken out.new) (O.faults out.new) (E.taken err.new) (E.faults err.new)) result }
     ensures pages { machine.new.pages ≡ machine.old.pages }
     ensures steps { machine.new.steps ≡ machine.old.steps }
-    ensures out_tells { is_some (O.taken out.new) ≡ is_some (O.taken out.old) }
-    ensures err_tells { is_some (E.taken err.new) ≡ is_some (E.taken err.old) }
-    ensures cause { IsCaused (failed_in result) (O.faults out.old) (O.faults out.new) (E.faults err.old) (E.faults err.new) }
-    ensures signal { SignalFits result }
 {
     let descriptor = machine.gprs.get(RDI);
     let addr = machine.gprs.get(RSI);
@@ -193,14 +187,11 @@ pub(crate) fn answer_call<O: Sink, E: Sink>(
     err: &mut E,
 ) -> Result<Option<GuestEnd>, HostCall>
     requires { AllResident machine.old.pages }
-    ensures follows { FollowsAt called machine.old machine.new
-        (O.taken out.old) (O.taken out.new) (E.taken err.old) (E.taken err.new) result }
+    ensures works { WorksAs called machine.old machine.new
+        (sinks (O.taken out.old) (O.faults out.old) (E.taken err.old) (E.faults err.old))
+        (sinks (O.taken out.new) (O.faults out.new) (E.taken err.new) (E.faults err.new)) result }
     ensures pages { machine.new.pages ≡ machine.old.pages }
     ensures steps { machine.new.steps ≡ machine.old.steps }
-    ensures out_tells { is_some (O.taken out.new) ≡ is_some (O.taken out.old) }
-    ensures err_tells { is_some (E.taken err.new) ≡ is_some (E.taken err.old) }
-    ensures cause { IsCaused (failed_in result) (O.faults out.old) (O.faults out.new) (E.faults err.old) (E.faults err.new) }
-    ensures signal { SignalFits result }
 {
     match machine.gprs.get(RAX) {
         1 => write(machine, out, err),

@@ -10,10 +10,11 @@ ghost use Rattle.xemu_top.specs.Command.{image_fits as image_fits_spec, header_f
 ghost use Rattle.xemu_top.specs.Loading.{IsLoaded, LoadCaused, AreMapped, image_perms};
 
 use byteorder::{ByteOrder, LittleEndian};
-use core_step::Machine;
+use core_step::{Machine, VecFile};
 use gpr_flags::{Flags, Gprs};
 use guest_pages::{Pages, Perms};
 use host_edge::Host;
+use machine_state::PAGE_SIZE;
 use std::alloc::{AllocError, Global};
 
 /// The most bytes of a program file.
@@ -21,8 +22,6 @@ pub(crate) const LONGEST_IMAGE: usize = 67_108_864;
 
 /// The number of pages that a guest may map, all of them in frames.
 const PAGES: u32 = 16_384;
-
-const PAGE: u64 = 4096;
 
 /// Where the image stands.
 const IMAGE_BASE: u64 = 0x40_0000;
@@ -132,7 +131,7 @@ fn map_image(pages: &mut Pages, count: u64)
     ensures size { KeepsSize pages.old pages.new }
 {
     for i in 0..count {
-        match pages.map_page(IMAGE_BASE + PAGE * i, READ_WRITE) {
+        match pages.map_page(IMAGE_BASE + PAGE_SIZE * i, READ_WRITE) {
             Ok(()) => {}
             Err(_) => unreachable!(),
         }
@@ -148,7 +147,7 @@ fn protect_image(pages: &mut Pages, count: u64)
     ensures size { KeepsSize pages.old pages.new }
 {
     for i in 0..count {
-        pages.set_perms(IMAGE_BASE + PAGE * i, READ_EXECUTE);
+        pages.set_perms(IMAGE_BASE + PAGE_SIZE * i, READ_EXECUTE);
     }
 }
 
@@ -159,7 +158,7 @@ fn image_pages(alloc: Global, bytes: &[u8]) -> Result<Pages, AllocError>
     ensures resident { IfOk result AllResident }
     ensures limit { IfOk result (λ pages. length pages.slots ≡ default_pages) }
 {
-    let count = (bytes.len() as u64 + 4095) / PAGE;
+    let count = (bytes.len() as u64 + (PAGE_SIZE - 1)) / PAGE_SIZE;
     let mut pages = Pages::new(alloc, PAGES, PAGES)?;
     map_image(&mut pages, count);
     match pages.write(IMAGE_BASE, bytes) {
@@ -183,6 +182,7 @@ pub(crate) fn first_machine(alloc: Global, bytes: &[u8]) -> Result<Machine, Allo
         gprs: Gprs::new(),
         flags: Flags::none(),
         rip: number_from(bytes, 24),
+        vec: VecFile::new(),
         pages,
         fs: 0,
         gs: 0,

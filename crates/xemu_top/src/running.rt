@@ -5,7 +5,7 @@ ghost use Rattle.form_scan.specs.Shaped.{most_bytes};
 ghost use Rattle.x_decode.specs.Seeing.{IsDecoded};
 ghost use Rattle.core_step.specs.Act.{performed};
 ghost use Rattle.xemu_top.specs.Step.{step, after_part, signal_of as signal_of_fault};
-ghost use Rattle.xemu_top.specs.Following.{FollowsAt, RunsAt, IsCaused, SignalFits, HasRunSignal, failed_in, run_end as run_end_spec, stopped_by};
+ghost use Rattle.xemu_top.specs.Following.{RunsAs, WorksAs, run_end as run_end_spec, sinks};
 
 use crate::calls::answer_call;
 use crate::ends::RunEnd;
@@ -49,14 +49,11 @@ fn perform<O: Sink, E: Sink>(
     requires most { len ≤ most_bytes }
     requires room { machine.old.steps < 2 ^ 64 - 1 }
     requires resident { AllResident machine.old.pages }
-    ensures follows { FollowsAt (λ w. after_part (performed d.now len w.state) w) machine.old machine.new
-        (O.taken out.old) (O.taken out.new) (E.taken err.old) (E.taken err.new) result }
+    ensures works { WorksAs (λ w. after_part (performed d.now len w.state) w) machine.old machine.new
+        (sinks (O.taken out.old) (O.faults out.old) (E.taken err.old) (E.faults err.old))
+        (sinks (O.taken out.new) (O.faults out.new) (E.taken err.new) (E.faults err.new)) result }
     ensures resident { AllResident machine.new.pages }
     ensures steps { machine.new.steps ≡ machine.old.steps + 1 }
-    ensures out_tells { is_some (O.taken out.new) ≡ is_some (O.taken out.old) }
-    ensures err_tells { is_some (E.taken err.new) ≡ is_some (E.taken err.old) }
-    ensures cause { IsCaused (failed_in result) (O.faults out.old) (O.faults out.new) (E.faults err.old) (E.faults err.new) }
-    ensures signal { SignalFits result }
 {
     match machine.perform(d, len) {
         Acted::Done => Ok(None),
@@ -79,14 +76,11 @@ fn turn<O: Sink, E: Sink>(
 ) -> Result<Option<GuestEnd>, HostCall>
     requires room { machine.old.steps < 2 ^ 64 - 1 }
     requires resident { AllResident machine.old.pages }
-    ensures follows { FollowsAt step machine.old machine.new
-        (O.taken out.old) (O.taken out.new) (E.taken err.old) (E.taken err.new) result }
+    ensures works { WorksAs step machine.old machine.new
+        (sinks (O.taken out.old) (O.faults out.old) (E.taken err.old) (E.faults err.old))
+        (sinks (O.taken out.new) (O.faults out.new) (E.taken err.new) (E.faults err.new)) result }
     ensures resident { AllResident machine.new.pages }
     ensures steps { machine.new.steps ≡ machine.old.steps + 1 }
-    ensures out_tells { is_some (O.taken out.new) ≡ is_some (O.taken out.old) }
-    ensures err_tells { is_some (E.taken err.new) ≡ is_some (E.taken err.old) }
-    ensures cause { IsCaused (failed_in result) (O.faults out.old) (O.faults out.new) (E.faults err.old) (E.faults err.new) }
-    ensures signal { SignalFits result }
 {
     match machine.fetch_by(cache) {
         Fetched::Instr(d, len) => perform(machine, d, *len, out, err),
@@ -115,12 +109,9 @@ pub(crate) fn run<O: Sink, E: Sink>(
 ) -> RunEnd
     requires steps { machine.old.steps ≤ upto }
     requires resident { AllResident machine.old.pages }
-    ensures runs { RunsAt (upto - machine.old.steps) machine.old machine.new
-        (O.taken out.old) (O.taken out.new) (E.taken err.old) (E.taken err.new) result }
-    ensures out_tells { is_some (O.taken out.new) ≡ is_some (O.taken out.old) }
-    ensures err_tells { is_some (E.taken err.new) ≡ is_some (E.taken err.old) }
-    ensures cause { IsCaused (stopped_by result) (O.faults out.old) (O.faults out.new) (E.faults err.old) (E.faults err.new) }
-    ensures signal { HasRunSignal result }
+    ensures { RunsAs (upto - machine.old.steps) machine.old machine.new
+        (sinks (O.taken out.old) (O.faults out.old) (E.taken err.old) (E.faults err.old))
+        (sinks (O.taken out.new) (O.faults out.new) (E.taken err.new) (E.faults err.new)) result }
 {
     while machine.steps < upto {
         match turn(machine, cache, out, err) {

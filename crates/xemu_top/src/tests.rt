@@ -171,7 +171,7 @@ fn hello_prints_and_exits_and_its_variants_end_as_they_should(rt: HostRuntime) -
 #[test]
 fn code_ends_as_it_should(rt: HostRuntime) -> Result<(), Fail> {
     let alloc = rt.alloc();
-    let rows: [(&[u8], End, u8, u64); 12] = [
+    let rows: [(&[u8], End, u8, u64); 13] = [
         // mov ecx, 3; lea edi, [rdi + 5]; loop to the lea; mov eax, 60; syscall
         (
             &[
@@ -205,8 +205,19 @@ fn code_ends_as_it_should(rt: HostRuntime) -> Result<(), Fail> {
         (&[0xF4], End::Killed(11), 139, 1),
         (&[0xF3, 0xC3], End::Killed(11), 139, 1),
         (&[0x66; 15], End::Killed(11), 139, 1),
-        // a byte from address 0 is written: EFAULT; then to the descriptors 0 and 7: EBADF
+        // a byte from address 0 is written: EFAULT
         (&write_code(1, 1), End::Exit(14), 14, 9),
+        // a page of bytes from the code on, of which the last aren't mapped: EFAULT, and none is put
+        (
+            &[
+                0xB8, 1, 0, 0, 0, 0xBF, 1, 0, 0, 0, 0x48, 0x8D, 0x35, 0, 0, 0, 0, 0xBA, 0, 0x10, 0,
+                0, 0x0F, 5, 0xF7, 0xD8, 0x89, 0xC7, 0xB8, 60, 0, 0, 0, 0x0F, 5,
+            ],
+            End::Exit(14),
+            14,
+            9,
+        ),
+        // a byte is written to the descriptors 0 and 7: EBADF
         (&write_code(0, 1), End::Exit(9), 9, 9),
         (&write_code(7, 1), End::Exit(9), 9, 9),
         // no byte

@@ -3,8 +3,8 @@ ghost use Rattle.std.specs.Prelude.{◌≡◌, ◌≤◌, ◌^◌, ℕ, List, Op
 ghost use Rattle.xemu_top.specs.Command.{words_fit as words_fit_spec, path_fits as path_fits_spec, path_word, image_fits as image_fits_spec, default_budget, status_of, HasSignal};
 ghost use Rattle.xemu_top.specs.Run.{Outside};
 ghost use Rattle.xemu_top.specs.Loading.{IsLoaded};
-ghost use Rattle.xemu_top.specs.Following.{IsCaused, IsTold, HasRunSignal};
-ghost use Rattle.xemu_top.specs.Headline.{Meets, MeetsFile, MeetsImage, IsOutside, KeepsInput, EndsLoad, CausesLoad, RefusesImage, Tally, IsCounted, NoneRose, IsImage, files_of, failed_call, is_own, is_run_or_memory, RefusesWords, finished};
+ghost use Rattle.xemu_top.specs.Following.{Course, HasRunSignal, IsTold, sinks};
+ghost use Rattle.xemu_top.specs.Headline.{Meets, MeetsFile, MeetsImage, IsAnswer, IsOutside, KeepsInput, AcceptsWords, EndsLoad, RefusesImage, Tally, IsCounted, NoneRose, IsImage, files_of, failed_after, failed_call, is_own, is_run_or_memory, RefusesWords, finished};
 
 use crate::ends::{End, Ended, ImageFault, RunEnd, WordFault};
 use crate::loading::{Loaded, first_machine, image_fits, load_file};
@@ -86,12 +86,10 @@ fn on_image<O: Sink, E: Sink>(alloc: Global, bytes: &[u8], out: &mut O, err: &mu
     ensures meets { (on : Outside) → IsTold (O.taken out.old) on.out → IsTold (E.taken err.old) on.err
         → MeetsImage default_budget bytes.now on result (KeepsInput on (O.taken out.new) (E.taken err.new)) }
     ensures refuses { RefusesImage (image_fits_spec bytes.now) result.end }
-    ensures no_words { (fault : _) → result.end ≡ End.Words fault → ⊥ }
-    ensures status { result.status ≡ status_of result.end }
-    ensures no_machine { is_own result.end ≡ false → result.machine ≡ None }
-    ensures out_tells { is_some (O.taken out.new) ≡ is_some (O.taken out.old) }
-    ensures err_tells { is_some (E.taken err.new) ≡ is_some (E.taken err.old) }
-    ensures cause { IsCaused (failed_call result.end) (O.faults out.old) (O.faults out.new) (E.faults err.old) (E.faults err.new) }
+    ensures words { AcceptsWords result.end }
+    ensures answer { IsAnswer result }
+    ensures course { Course (sinks (O.taken out.old) (O.faults out.old) (E.taken err.old) (E.faults err.old))
+        (sinks (O.taken out.new) (O.faults out.new) (E.taken err.new) (E.faults err.new)) (failed_call result.end) }
 {
     if !image_fits(bytes) {
         return refused(End::Image(NO_IMAGE));
@@ -115,12 +113,10 @@ fn on_loaded<O: Sink, E: Sink>(alloc: Global, loaded: Loaded, out: &mut O, err: 
         → IsTold (O.taken out.old) on.out → IsTold (E.taken err.old) on.err
         → MeetsFile default_budget file on result (KeepsInput on (O.taken out.new) (E.taken err.new)) }
     ensures ends { EndsLoad loaded result.end }
-    ensures no_words { (fault : _) → result.end ≡ End.Words fault → ⊥ }
-    ensures status { result.status ≡ status_of result.end }
-    ensures no_machine { is_own result.end ≡ false → result.machine ≡ None }
-    ensures out_tells { is_some (O.taken out.new) ≡ is_some (O.taken out.old) }
-    ensures err_tells { is_some (E.taken err.new) ≡ is_some (E.taken err.old) }
-    ensures cause { CausesLoad loaded result.end (O.faults out.old) (O.faults out.new) (E.faults err.old) (E.faults err.new) }
+    ensures words { AcceptsWords result.end }
+    ensures answer { IsAnswer result }
+    ensures course { Course (sinks (O.taken out.old) (O.faults out.old) (E.taken err.old) (E.faults err.old))
+        (sinks (O.taken out.new) (O.faults out.new) (E.taken err.new) (E.faults err.new)) (failed_after loaded result.end) }
 {
     match loaded {
         Loaded::Whole(bytes) => on_image(alloc, &bytes, out, err),

@@ -12,7 +12,7 @@ returns-in-Ok-first_machine-clause-meets g c on out_is err_is =
     (meets-finished default_budget c.args.bytes.now on c.run-end.new.machine
     (g.O.Sink.taken c.run-end.new.out) (g.E.Sink.taken c.run-end.new.err) fits c.run-end.result
     (λ w.
-    let ran = c.run-end.ensures.runs w (first_world c.args.bytes.now on) on.out on.err (first_world-descriptors c.args.bytes.now on) out_is err_is in
+    let ran = c.run-end.ensures.follows w (first_world c.args.bytes.now on) on.out on.err (first_world-descriptors c.args.bytes.now on) out_is err_is in
     reaches _ _ _ _ ran.out_now ran.err_now _ ran.out_told ran.err_told
     (runs-first default_budget c.in-Ok-first_machine.machine.steps c.args.bytes.now on (state_of c.in-Ok-first_machine.machine w)
     c.run-end.result _ (c.in-Ok-first_machine.ensures.state w) c.in-Ok-first_machine.ensures.steps ran.meets)))

@@ -9,7 +9,7 @@ pub returns-in-Whole-clause-meets : goal.returns-in-Whole-clause-meets
 returns-in-Whole-clause-meets g c on file loaded out_is err_is =
     let held = subst (λ (l : Loaded). IsLoaded l file) c.in-Whole.is loaded in
     let is : file ≡ Some c.deref.result.now = held ∙ ap (λ (bytes : List ℕ). let o : Option (List ℕ) = Some bytes in o) (sym c.deref.ensures.value) in
-    meets-whole default_budget on _ c.deref.result.now file _ _ _ _ _ is (c.on_image.ensures.meets on out_is err_is) c.on_image.ensures.cause
+    meets-whole default_budget on _ c.deref.result.now file _ _ _ _ _ is (c.on_image.ensures.meets on out_is err_is) c.on_image.ensures.course.cause
 
 pub returns-in-Long-clause-meets : goal.returns-in-Long-clause-meets
 returns-in-Long-clause-meets g c on file loaded out_is err_is =

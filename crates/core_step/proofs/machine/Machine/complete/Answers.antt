@@ -25,13 +25,13 @@ returns c =
     let o = c.outcome-outcome.result in
     record {
       after = λ w.
-          let a : c.old_value-a.result ≡ old_value i.usage i.destination i.size old.gprs (byte_of old.pages w) = c.old_value-a.ensures.value w in
-          let b : c.value-b.result ≡ value_of i.source i.source_size old.gprs (byte_of old.pages w) = c.value-b.ensures.value w in
-          let beside : c.register_value-c.result ≡ register_value i.beside i.beside_size old.gprs = c.register_value-c.ensures.value in
+          let a : c.old_value-a.result ≡ old_value i.usage i.destination i.size p (byte_of old.pages w) = c.old_value-a.ensures.value w in
+          let b : c.value-b.result ≡ value_of i.source i.source_size p (byte_of old.pages w) = c.value-b.ensures.value w in
+          let beside : c.register_value-c.result ≡ register_value i.beside i.beside_size p = c.register_value-c.ensures.value in
           let same : o ≡ outcome_in i p (byte_of old.pages w) =
           c.outcome-outcome.ensures.outcome ∙ (λ k. outcome_of i (a k) (b k) (beside k) old.flags old.steps) in
           left-is (effect_by i o p (byte_of old.pages w)) (memory_of old.pages w) o.acted (state_of c.leave.new.self w) refl c.leave.ensures.gprs
-          c.leave.ensures.flags c.leave.ensures.rip refl c.leave.ensures.fs c.leave.ensures.gs c.leave.ensures.steps
+          c.leave.ensures.flags c.leave.ensures.rip c.leave.ensures.extended c.leave.ensures.fs c.leave.ensures.gs c.leave.ensures.steps
           (ap perms_in c.leave.ensures.pages.table) (c.leave.ensures.byte w)
           ∙ ap (λ (x : Outcome). left_by (effect_by i x p (byte_of old.pages w)) (memory_of old.pages w)) same;
       own = outcome-own o.acted o old.flags c.outcome-outcome.ensures.fits;

@@ -20,7 +20,7 @@ returns c =
           left-is (exchanged c.args.i.now c.load-found.result p (byte_of old.pages w)) (memory_of old.pages w) Done (state_of c.move_on.new.self w) refl
           (ap (λ (m : Machine). m.gprs) c.move_on.ensures ∙ c.exchange_registers.ensures)
           (ap (λ (m : Machine). m.flags) c.move_on.ensures ∙ ap (λ (b : Bool). record old.flags { zf = b }) c.is_equal-equal.ensures)
-          (ap (λ (m : Machine). m.rip) c.move_on.ensures) refl (ap (λ (m : Machine). m.fs) c.move_on.ensures)
+          (ap (λ (m : Machine). m.rip) c.move_on.ensures) (ap (λ (m : Machine). m.vec) c.move_on.ensures) (ap (λ (m : Machine). m.fs) c.move_on.ensures)
           (ap (λ (m : Machine). m.gs) c.move_on.ensures) (ap (λ (m : Machine). m.steps) c.move_on.ensures)
           (ap (λ (m : Machine). perms_in (table_of m.pages)) c.move_on.ensures ∙ ap perms_in c.exchange_memory.ensures.table.table)
           (ap (λ (m : Machine). byte_of m.pages w) c.move_on.ensures ∙ c.exchange_memory.ensures.byte w)

@@ -20,7 +20,7 @@ returns-then-is_over c =
       after = λ w.
           left-is (passed_over c.args.i.now (processor_in old) (byte_of old.pages w)) (memory_of old.pages w) Done (state_of c.move_on.new.self w) refl
           (ap (λ (m : Machine). m.gprs) c.move_on.ensures) (ap (λ (m : Machine). m.flags) c.move_on.ensures)
-          (ap (λ (m : Machine). m.rip) c.move_on.ensures) refl (ap (λ (m : Machine). m.fs) c.move_on.ensures)
+          (ap (λ (m : Machine). m.rip) c.move_on.ensures) (ap (λ (m : Machine). m.vec) c.move_on.ensures) (ap (λ (m : Machine). m.fs) c.move_on.ensures)
           (ap (λ (m : Machine). m.gs) c.move_on.ensures) (ap (λ (m : Machine). m.steps) c.move_on.ensures)
           (ap (λ (m : Machine). perms_in (table_of m.pages)) c.move_on.ensures) (ap (λ (m : Machine). byte_of m.pages w) c.move_on.ensures);
       own = done-own;

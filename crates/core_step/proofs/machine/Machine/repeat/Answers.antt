@@ -22,7 +22,7 @@ returns c =
           (ap (λ (m : Machine). m.flags) c.move_on.ensures ∙ c.iterate_once.ensures.flags w)
           (ap (λ (m : Machine). m.rip) c.move_on.ensures ∙ c.rip_after-rip.ensures
           ∙ (λ k. cond (is_continued i (c.count-count.ensures k) (c.iterate_once.ensures.flags w k)) old.rip i.next))
-          refl (ap (λ (m : Machine). m.fs) c.move_on.ensures) (ap (λ (m : Machine). m.gs) c.move_on.ensures)
+          (ap (λ (m : Machine). m.vec) c.move_on.ensures) (ap (λ (m : Machine). m.fs) c.move_on.ensures) (ap (λ (m : Machine). m.gs) c.move_on.ensures)
           (ap (λ (m : Machine). m.steps) c.move_on.ensures)
           (ap (λ (m : Machine). perms_in (table_of m.pages)) c.move_on.ensures ∙ ap perms_in c.iterate_once.ensures.table.table)
           (ap (λ (m : Machine). byte_of m.pages w) c.move_on.ensures ∙ c.iterate_once.ensures.byte w);

@@ -2,7 +2,7 @@ use Rattle.std.proofs.Common.{◌≡◌, ◌-◌, ◌%◌, ◌/◌, ◌∙◌, a
 use Rattle.std.specs.Option.{option_map}
 use Rattle.std.proofs.lemmas.Result.{err_from_is_err_and}
 use Rattle.machine_state.specs.declared.kinds.Miss.TheVariants.{Away}
-use Rattle.machine_state.specs.Memory.{or_else}
+use Rattle.machine_state.specs.Memory.{page_size, or_else}
 use Rattle.guest_pages.specs.Table.{away_at}
 use Rattle.guest_pages.specs.Pages.{table_of}
 use Rattle.guest_pages.proofs.Walks.{walks_on, walked_at, walked_out, walk_misses}
@@ -16,16 +16,16 @@ returns-in_err-k-clause-walked c =
 
 pub returns-then-left-here-clause-walked : goal.returns-then-left-here-clause-walked
 returns-then-left-here-clause-walked c =
-    let away : option_map Away c.away_slot.result ≡ away_at (table_of c.args.self.now (c.loop-left.at / 4096)) =
-    ap (option_map Away) c.away_slot.ensures ∙ slot_away c.args.self.now (c.loop-left.at / 4096) c.in_ok-k.k c.in_ok-k.ensures.seat in
+    let away : option_map Away c.away_slot.result ≡ away_at (table_of c.args.self.now (c.loop-left.at / page_size)) =
+    ap (option_map Away) c.away_slot.ensures ∙ slot_away c.args.self.now (c.loop-left.at / page_size) c.in_ok-k.k c.in_ok-k.ensures.seat in
     walked_at c.args.self.now c.args.kind c.args.addr c.args.len c.loop-left.at c.loop-left.left c.loop-left.away c.earlier-away.result c.loop-left.invariant (omega arith) (omega arith) c.in_ok-k.ensures.grants
     (c.earlier-away.ensures ∙ ap (or_else (option_map Away c.loop-left.away)) away)
 
 pub loop-left-preserved : goal.loop-left-preserved
 loop-left-preserved c =
-    let away : option_map Away c.away_slot.result ≡ away_at (table_of c.args.self.now (c.loop-left.at / 4096)) =
-    ap (option_map Away) c.away_slot.ensures ∙ slot_away c.args.self.now (c.loop-left.at / 4096) c.in_ok-k.k c.in_ok-k.ensures.seat in
-    walks_on c.args.self.now c.args.kind c.args.addr c.args.len c.loop-left.at c.loop-left.left (4096 - c.loop-left.at % 4096) c.loop-left.away c.earlier-away.result c.loop-left.invariant
+    let away : option_map Away c.away_slot.result ≡ away_at (table_of c.args.self.now (c.loop-left.at / page_size)) =
+    ap (option_map Away) c.away_slot.ensures ∙ slot_away c.args.self.now (c.loop-left.at / page_size) c.in_ok-k.k c.in_ok-k.ensures.seat in
+    walks_on c.args.self.now c.args.kind c.args.addr c.args.len c.loop-left.at c.loop-left.left (page_size - c.loop-left.at % page_size) c.loop-left.away c.earlier-away.result c.loop-left.invariant
     (omega arith) (omega arith) (omega arith) c.in_ok-k.ensures.grants
     (c.earlier-away.ensures ∙ ap (or_else (option_map Away c.loop-left.away)) away)
 

@@ -1,5 +1,6 @@
 use Rattle.std.proofs.Common.{◌/◌, None, get_or}
 use Rattle.std.proofs.lemmas.List.{get_or_read}
+use Rattle.machine_state.specs.Memory.{page_size}
 use Rattle.guest_pages.specs.Slots.{IsSeatOf}
 use Rattle.guest_pages.proofs.Seats.{entry_there}
 use Rattle.guest_pages.proofs.Protects.{mapped_seat, zeroed_slot, zeroed_there, zeroed_kept}
@@ -10,19 +11,19 @@ unreachable-requires c = mapped_seat c.args.self.now _ c.in-None.ensures c.requi
 
 pub invariant_of-self : goal.invariant_of-self
 invariant_of-self c =
-    let seat : IsSeatOf c.self.inside.slots.items (c.args.addr / 4096) c.in-Some.k = rw (← c.self.view_is) at c.in-Some.ensures in
+    let seat : IsSeatOf c.self.inside.slots.items (c.args.addr / page_size) c.in-Some.k = rw (← c.self.view_is) at c.in-Some.ensures in
     let there = entry_there (get_or c.self.inside.slots.items c.in-Some.k None) _ seat.here in
     let read = get_or_read c.self.inside.slots.items c.in-Some.k c.index_mut.result.now seat.within c.index_mut.ensures.value None in
     let after = zeroed_slot c.index_mut.result.now c.zero.new.slot there.0 (rw read there.1) c.zero.ensures in
-    rw after.1 (zeroed_kept c.self.inside.slots.items _ _ _ _ (c.args.addr / 4096) c.in-Some.k there.0 after.0 seat there.1 there.2 after.2 c.self.invariant)
+    rw after.1 (zeroed_kept c.self.inside.slots.items _ _ _ _ (c.args.addr / page_size) c.in-Some.k there.0 after.0 seat there.1 there.2 after.2 c.self.invariant)
 
 pub returns-clause-zeroed : goal.returns-clause-zeroed
 returns-clause-zeroed c =
-    let seat : IsSeatOf c.self.inside.slots.items (c.args.addr / 4096) c.in-Some.k = rw (← c.self.view_is) at c.in-Some.ensures in
+    let seat : IsSeatOf c.self.inside.slots.items (c.args.addr / page_size) c.in-Some.k = rw (← c.self.view_is) at c.in-Some.ensures in
     let there = entry_there (get_or c.self.inside.slots.items c.in-Some.k None) _ seat.here in
     let read = get_or_read c.self.inside.slots.items c.in-Some.k c.index_mut.result.now seat.within c.index_mut.ensures.value None in
     let after = zeroed_slot c.index_mut.result.now c.zero.new.slot there.0 (rw read there.1) c.zero.ensures in
-    rw (← c.self.view_is, after.1) (zeroed_there _ (c.args.addr / 4096) c.in-Some.k there.0 after.0 seat there.1 there.2 c.self.invariant.sound after.2)
+    rw (← c.self.view_is, after.1) (zeroed_there _ (c.args.addr / page_size) c.in-Some.k there.0 after.0 seat there.1 there.2 c.self.invariant.sound after.2)
 
 pub returns-clause-resident : goal.returns-clause-resident
 returns-clause-resident c = λ all page. rw (returns-clause-zeroed c).table (all page)
