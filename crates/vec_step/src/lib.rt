@@ -9,3 +9,6 @@ mod planning;
 pub use kinds::{Places, Source, Span, Spots, Target, VectorPlan};
 pub use performing::{perform, walk};
 pub use planning::plan;
+
+#[cfg(test)]
+mod tests;
