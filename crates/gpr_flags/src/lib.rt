@@ -9,7 +9,7 @@ mod registers;
 
 pub use gprs::Gprs;
 pub use kinds::{Fault, Flags};
-pub use numbers::{has_bit, is_negative, low, power};
+pub use numbers::{has_bit, is_negative, low, low_signed, power, signed};
 pub use registers::{R11, RAX, RBP, RBX, RCX, RDI, RDX, RSI, RSP};
 
 #[cfg(test)]

@@ -1,6 +1,6 @@
-//! Numbers of so many bits, their bits and their sign.
+//! Numbers of so many bits, their bits and their sign, and whole numbers as bits in two's complement.
 ghost use Rattle.std.specs.Prelude.{◌≡◌, ◌%◌, ◌^◌, ◌<◌, ◌≤◌};
-ghost use Rattle.gpr_flags.specs.Numbers.{has_bit as has_bit_of, is_negative as is_negative_of};
+ghost use Rattle.gpr_flags.specs.Numbers.{has_bit as has_bit_of, is_negative as is_negative_of, signed_of, low_of};
 
 /// 2 to the power of `exponent`.
 pub fn power(exponent: u32) -> u128
@@ -35,4 +35,27 @@ pub fn is_negative(width: u32, number: u64) -> bool
     ensures { result ≡ is_negative_of width number }
 {
     has_bit(number, width - 1)
+}
+
+/// The number that `bits` bits are in two's complement.
+pub fn signed(bits: u32, number: u64) -> i64
+    requires some { 0 < bits }
+    requires most { bits ≤ 64 }
+    requires fits { number < 2 ^ bits }
+    ensures { result ≡ signed_of bits number }
+{
+    if is_negative(bits, number) {
+        (i128::from(number) - (1 << bits)) as i64
+    } else {
+        number as i64
+    }
+}
+
+/// The low bits of a number in two's complement.
+pub fn low_signed(bits: u32, number: i128) -> u64
+    requires { bits ≤ 64 }
+    ensures value { result ≡ low_of bits number }
+    ensures small { result < 2 ^ bits }
+{
+    low(bits, number.cast_unsigned())
 }

@@ -1,12 +1,13 @@
 -- Sums, differences and logic of n bits: a value, and the seven flags.
 use Rattle.std.specs.Prelude.{ℕ, ◌+◌, ◌-◌, ◌%◌, ◌^◌, pos, ◌+ℤ◌, ◌-ℤ◌, Bool, true, false, nat_le, nat_lt, if◌then◌else◌, bit_and, bit_or, bit_xor}
 use Rattle.gpr_flags.specs.declared.kinds.Flags.{Flags}
+use Rattle.gpr_flags.specs.Numbers.{signed_of}
 use Rattle.gpr_flags.specs.Flags.{value_flags}
 use Rattle.row_table.specs.declared.operations.Op.{Op}
 use Rattle.row_table.specs.declared.operations.Op.TheVariants.{Gpr}
 use Rattle.row_table.specs.declared.operations.GprOp.{GprOp}
 use Rattle.row_table.specs.declared.operations.GprOp.TheVariants.{Add, Or, Adc, Sbb, And, Sub, Xor, Cmp, Test, Not, Neg, Inc, Dec, Mul, Imul, Div, Idiv, Mulx, Adcx, Adox}
-use Rattle.gpr_units.specs.Numbers.{signed_of, is_outside}
+use Rattle.gpr_units.specs.Numbers.{is_outside}
 
 -- what an operation gives: a value of n bits, and the flags
 pub record Scalar : Type 0 where

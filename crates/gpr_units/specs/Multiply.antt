@@ -1,7 +1,8 @@
 -- Products of numbers of n bits, in twice as many (SDM volume 2, MUL and IMUL).
 use Rattle.std.specs.Prelude.{ℕ, ℤ, ◌*◌, ◌/◌, ◌%◌, ◌^◌, ◌*ℤ◌, Bool}
 use Rattle.gpr_flags.specs.declared.kinds.Flags.{Flags}
-use Rattle.gpr_units.specs.Numbers.{number_of, low_of, is_outside}
+use Rattle.gpr_flags.specs.Numbers.{low_of}
+use Rattle.gpr_units.specs.Numbers.{number_of, is_outside}
 
 -- the product of the low n bits of a and of b
 unfoldable pub product_of : (signed : Bool) (n a b : ℕ) → ℤ

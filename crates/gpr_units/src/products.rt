@@ -1,10 +1,10 @@
 //! Products.
 ghost use Rattle.std.specs.Prelude.{◌≡◌, pos, ◌*◌, ◌<◌, ◌≤◌, ◌^◌, ◌*ℤ◌, true, false};
-ghost use Rattle.gpr_units.specs.Numbers.{signed_of};
+ghost use Rattle.gpr_flags.specs.Numbers.{signed_of};
 ghost use Rattle.gpr_units.specs.Multiply.{product_of, low_half, high_half, product_flags};
 
-use crate::numbers::{bits_in, cut, full, is_outside_signed, signed as signed_number};
-use gpr_flags::{Flags, low};
+use crate::numbers::{bits_in, cut, full, is_outside_signed};
+use gpr_flags::{Flags, low, signed as signed_number};
 
 fn signed_product(a: i64, b: i64) -> i128
     ensures { result ≡ a *ℤ b }

@@ -1,11 +1,12 @@
 //! Quotients and remainders.
 ghost use Rattle.std.specs.Prelude.{◌≡◌, ◌≢◌, pos, negsuc, ◌+◌, ◌*◌, ◌/◌, ◌<◌, ◌≤◌, ◌^◌, ◌%◌, ◌⊎◌, true, false, IfOk, OnErr, IfSome, IfNone, int_div, int_rem, FitsSigned, is_err};
 ghost use Rattle.std.specs.Int.{w128};
-ghost use Rattle.gpr_units.specs.Numbers.{signed_of, low_of, is_outside};
+ghost use Rattle.gpr_flags.specs.Numbers.{signed_of, low_of};
+ghost use Rattle.gpr_units.specs.Numbers.{is_outside};
 ghost use Rattle.gpr_units.specs.Divide.{dividend_of, divisor_of, quotient_of, remainder_of, is_refused};
 
-use crate::numbers::{bits_in, cut, full, is_outside_signed, low_signed, signed as signed_number};
-use gpr_flags::low;
+use crate::numbers::{bits_in, cut, full, is_outside_signed};
+use gpr_flags::{low, low_signed, signed as signed_number};
 
 /// The divisor is 0, or the quotient doesn't fit (#DE).
 #[derive(Clone, Copy)]

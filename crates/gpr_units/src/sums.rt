@@ -2,8 +2,8 @@
 ghost use Rattle.std.specs.Prelude.{◌≡◌, pos, ◌+◌, ◌*◌, ◌<◌, ◌≤◌, ◌^◌, ◌+ℤ◌, ◌-ℤ◌, IsTrue};
 ghost use Rattle.gpr_units.specs.Alu.{carry_of, sum_value, sum_carry, sum_flags, difference_value, difference_flags, logic_flags, scalar_of, is_alu, alu_value, alu_flags};
 
-use crate::numbers::{bits_in, cut, full, is_outside_signed, signed};
-use gpr_flags::{Flags, low};
+use crate::numbers::{bits_in, cut, full, is_outside_signed};
+use gpr_flags::{Flags, low, signed};
 use row_table::{GprOp, Op};
 
 fn signed_sum(a: i64, b: i64, carry: u64) -> i128

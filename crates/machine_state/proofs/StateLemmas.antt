@@ -24,5 +24,5 @@ initial_is = record {
   x87_len = refl;
   x87_bytes = x87_bytes;
   x87_zero = refl;
-  restored = record { at = tt; kept = refl };
+  restored = record { at = tt; kept = omega arith; without_x87 = refl };
 }

@@ -1,7 +1,7 @@
 -- The machine state: what a program sees of the processor, and its memory.
 use Rattle.std.specs.Prelude.{ℕ, ◌≡◌, ◌<◌, ◌^◌, Bool, false, List, [], ◌∷◌, ◌++◌, length, slice_index, All, Option, None, IfSome, replicate}
-use Rattle.std.specs.Int.RustNames.{bit_and}
 use Rattle.gpr_flags.specs.declared.kinds.Flags.{Flags}
+use Rattle.gpr_flags.specs.Numbers.{has_bit}
 use Rattle.machine_state.specs.Memory.{Memory, AreBytes, IsMemory}
 
 -- what the processor remembers of the last XRSTOR, for XSAVEOPT: the area's address, if there is one, whether that area
@@ -49,11 +49,6 @@ initial_extended = record {
   restored = no_restored;
 }
 
--- the components 1, 2, 5, 6 and 7, by bit (SDM volume 1, 13.1): those that a restore record can have; component 0 isn't among
--- them (this program's own)
-abbrev pub kept_components : ℕ
-kept_components = 0xE6
-
 -- numbers of 64 bits
 abbrev pub AreWords : List ℕ → Type 0
 AreWords numbers = All (λ number. number < 2 ^ 64) numbers
@@ -63,10 +58,12 @@ pub record IsVector (vector : List ℕ) : Type 0 where
   pub len : length vector ≡ 64
   pub bytes : AreBytes vector
 
--- a restore record as it can be
+-- a restore record as it can be: its kept set is one of the components 0 to 7, by bit, without component 0 (SDM volume 1, 13.1;
+-- that component 0 isn't kept is this program's own)
 pub record IsRestored (restored : Restored) : Type 0 where
   pub at : IfSome restored.at (λ addr. addr < 2 ^ 64)
-  pub kept : bit_and restored.kept kept_components ≡ restored.kept
+  pub kept : restored.kept < 2 ^ 8
+  pub without_x87 : has_bit restored.kept 0 ≡ false
 
 -- extended state as it can be (SDM volume 1, 10.2, 13.4 and 15.1)
 pub record IsExtended (extended : Extended) : Type 0 where

@@ -1,7 +1,8 @@
 use Rattle.std.proofs.Common.{◌<◌, ◌-◌, ◌*◌, arith}
 use Rattle.std.proofs.lemmas.Int.{ints}
 use Rattle.gpr_flags.proofs.Signs.{power-half, is_negative-by_half}
-use Rattle.gpr_units.proofs.Bits.{half_wide-small, power-some}
+use Rattle.gpr_flags.proofs.SignedBits.{power-some}
+use Rattle.gpr_units.proofs.Bits.{half_wide-small}
 use Rattle.gpr_units.proofs.quotients.signed_wide.Goals as goal
 
 pub above_zero-requires : goal.above_zero-requires

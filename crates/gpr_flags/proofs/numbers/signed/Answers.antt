@@ -1,8 +1,8 @@
 use Rattle.std.proofs.Common.{arith}
 use Rattle.std.proofs.lemmas.Int.{ints}
 use Rattle.gpr_flags.proofs.Signs.{power-half, is_negative-by_half}
-use Rattle.gpr_units.proofs.Bits.{half-small}
-use Rattle.gpr_units.proofs.numbers.signed.Goals as goal
+use Rattle.gpr_flags.proofs.SignedBits.{half-small}
+use Rattle.gpr_flags.proofs.numbers.signed.Goals as goal
 
 pub returns-then-is_negative : goal.returns-then-is_negative
 returns-then-is_negative c =

@@ -1,8 +1,8 @@
 use Rattle.std.proofs.Common.{◌∙◌, ap, ◌%◌, ◌^◌, ◌≤◌, of_z, arith}
 use Rattle.std.specs.Int.{w128}
 use Rattle.std.proofs.lemmas.Int.{to_z-of_z}
-use Rattle.gpr_units.proofs.Bits.{low-bits}
-use Rattle.gpr_units.proofs.numbers.low_signed.Goals as goal
+use Rattle.gpr_flags.proofs.SignedBits.{low-bits}
+use Rattle.gpr_flags.proofs.numbers.low_signed.Goals as goal
 
 pub returns-clause-value : goal.returns-clause-value
 returns-clause-value c =

@@ -1,0 +1,6 @@
+pub mod Bytes
+pub mod Clamps
+pub mod Fill
+pub mod Joins
+pub mod LaneLemmas
+pub mod Same

@@ -1,0 +1,4 @@
+pub mod Components
+pub mod Lane
+pub mod Ranges
+pub mod Setters

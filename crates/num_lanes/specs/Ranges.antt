@@ -1,0 +1,12 @@
+-- The nearest numbers of a range.
+use Rattle.std.specs.Prelude.{ℕ, ℤ, pos, ◌-◌, ◌^◌, neg_ℤ}
+use Rattle.std.specs.Int.{int_min, int_max}
+use Rattle.gpr_flags.specs.Numbers.{low_of}
+
+-- the nearest number that n bits are in two's complement, as these bits (SDM volume 1, 9.3.2, signed saturation)
+abbrev pub clamp_signed_of : (n : ℕ) → ℤ → ℕ
+clamp_signed_of n value = low_of n (int_max (neg_ℤ (pos (2 ^ (n - 1)))) (int_min value (pos (2 ^ (n - 1) - 1))))
+
+-- the nearest number of n bits without a sign (SDM volume 1, 9.3.2, unsigned saturation)
+abbrev pub clamp_unsigned_of : (n : ℕ) → ℤ → ℕ
+clamp_unsigned_of n value = low_of n (int_max (pos 0) (int_min value (pos (2 ^ n - 1))))
