@@ -3,6 +3,7 @@ use Rattle.std.specs.Prelude.{ℕ, ◌+◌, ◌/◌, ◌%◌, ◌^◌, List, Opt
 use Rattle.machine_state.specs.Memory.{written, number_at, number_bytes}
 use Rattle.machine_state.specs.State.{Extended}
 use Rattle.gpr_flags.specs.Registers.{RSP, with_register}
+use Rattle.num_lanes.specs.Setters.{with_mxcsr}
 use Rattle.core_step.specs.declared.acted.Acted.{Acted}
 use Rattle.core_step.specs.declared.acted.Acted.TheVariants.{Done}
 use Rattle.core_step.specs.declared.sizes.Size.{Size}
@@ -69,7 +70,7 @@ byte_after operand size (Some number) byte = byte_with operand size number byte
 
 -- MXCSR has sixteen bits (SDM volume 1, 10.2.3)
 abbrev pub extended_with : Operand → ℕ → Extended → Extended
-extended_with Mxcsr number extended = record extended { mxcsr = number % 2 ^ 16 }
+extended_with Mxcsr number extended = with_mxcsr (number % 2 ^ 16) extended
 extended_with Absent number extended = extended
 extended_with (Register to) number extended = extended
 extended_with (HighByte to) number extended = extended
