@@ -6,3 +6,4 @@ pub mod Unique
 pub mod Shaping
 pub mod Search
 pub mod Computing
+pub mod Spelled

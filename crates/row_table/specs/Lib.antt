@@ -5,3 +5,4 @@ pub mod Legacy
 pub mod Vex
 pub mod Rows
 pub mod Matching
+pub mod Spelling

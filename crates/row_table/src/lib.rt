@@ -7,6 +7,7 @@ mod kinds;
 mod layouts;
 mod matching;
 mod operations;
+mod spelling;
 mod table;
 
 pub use finding::{find, is_used, row, row_count, shape};
@@ -20,6 +21,7 @@ pub use operations::{
     BitOp, CoreOp, CrossOp, GatherOp, GprOp, LaneOp, MacOp, MaskOp, Op, StringOp, VectorOp,
     WidthOp, XsaveOp,
 };
+pub use spelling::{are_bytes_there, do_registers_fit, is_vvvv_used, is_without_evex};
 
 #[cfg(test)]
 mod tests;

@@ -10,7 +10,6 @@ use Rattle.form_scan.specs.declared.kinds.Scan.TheVariants.{Whole, Short as Cut,
 use Rattle.form_scan.specs.Shaped.{within_limit, IsWhole, IsCut}
 use Rattle.x_decode.specs.declared.kinds.Seen.TheVariants.{Instr}
 use Rattle.x_decode.specs.Seeing.{IsDecoded, IsInstr, IsShort, IsTooLong, IsBad, InRange}
-use Rattle.x_decode.proofs.Classes.{decoded-fields}
 use Rattle.x_decode.proofs.Computing.{whole-some}
 
 -- neither holds
@@ -43,8 +42,8 @@ module _ (bytes : List ℕ) (f : Fields) (n : ℕ) (t : Told bytes (Whole f n)) 
 
   seen-instr : (d : Decoded) → IsDecoded f d → IsInstr bytes d n
   seen-instr d h = record {
-    whole = subst (λ (x : Fields). IsWhole (within_limit bytes) x n) (sym (decoded-fields f d h)) ((t.whole f n).0 refl);
-    decoded = subst (λ (x : Fields). IsDecoded x d) (sym (decoded-fields f d h)) h;
+    whole = subst (λ (x : Fields). IsWhole (within_limit bytes) x n) (sym h.fields) ((t.whole f n).0 refl);
+    decoded = subst (λ (x : Fields). IsDecoded x d) (sym h.fields) h;
   }
 
   within-limit : (n ≤ length bytes) × (n ≤ 15)

@@ -1,56 +1,53 @@
--- The instruction of some fields, by the rules of their class.
-use Rattle.std.proofs.Common.{◌≡◌, ◌↔◌, ◌<◌, ℕ, true, ◌⊎◌, inl, inr, Option, None, length, sym, subst}
-use Rattle.std.proofs.Common.{Some as some}
-use Rattle.std.proofs.lemmas.Option.{slice_get_within}
+-- What the rules of every class say of an instruction's fields.
+use Rattle.std.proofs.Common.{◌≡◌, ◌<◌, ℕ, true, ◌&&◌, ◌||◌, ◌==◌, nat_lt, length, eqb-true, arith}
+use Rattle.std.proofs.lemmas.Bool.{and_parts}
+use borrow.Author.Tests.{ltb-true}
 use Rattle.row_table.specs.declared.kinds.Class.{Class}
 use Rattle.row_table.specs.declared.kinds.Class.TheVariants.{Legacy, Vex, Evex}
+use Rattle.row_table.specs.declared.kinds.Row.{Row}
 use Rattle.row_table.specs.declared.kinds.Fields.{Fields}
 use Rattle.row_table.specs.declared.kinds.Decoded.{Decoded}
 use Rattle.row_table.specs.Rows.{rows}
-use Rattle.row_table.specs.Matching.{Matches, by_mark, without_mark}
-use Rattle.legacy_decode.specs.Spelling.{IsLegacyDecoded, registers_fit}
-use Rattle.x_decode.specs.Seeing.{IsDecodedIn, IsDecoded}
+use Rattle.row_table.specs.Spelling.{registers_fit, bytes_fit, without_evex, uses_vvvv}
+use Rattle.row_table.proofs.Spelled.{spelled-within, spelled-allowed}
+use Rattle.legacy_decode.specs.Lock.{lock_fits}
+use Rattle.legacy_decode.specs.Spelling.{without_vex}
+use Rattle.vex_decode.specs.Spelling.{without_prefixes, bits_fit, vvvv_fits}
+use Rattle.x_decode.specs.Seeing.{encoding_of, IsDecoded}
 
--- fields of the legacy class
-pub legacy-decoded : (f : Fields) (o : Option Decoded) → f.class ≡ Legacy → ((d : Decoded) → (o ≡ some d) ↔ IsLegacyDecoded f d)
-    → (d : Decoded) → (o ≡ some d) ↔ IsDecoded f d
-legacy-decoded f o legacy is d = subst (λ (c : Class). (o ≡ some d) ↔ IsDecodedIn c f d) (sym legacy) (is d)
+record Registers (f : Fields) : Type 0 where
+  fit : registers_fit f ≡ true
+  vvvv : f.v < 16
 
--- fields of another class are no instruction
-none-in : (f : Fields) (d : Decoded) → (None ≡ some d) ↔ ⊥
-none-in f d = (λ e. cc, λ h. absurd h)
+registers-in : (c : Class) (f : Fields) (r : Row) → (encoding_of c).allows r f ≡ true → Registers f
+unfolding encoding_of
+registers-in Legacy f r h =
+    let a = and_parts (lock_fits r f) _ h in
+    let b = and_parts (registers_fit f) _ a.1 in
+    let d = and_parts (bytes_fit f) (without_vex f) b.1 in
+    let e = and_parts (f.v == 0) (without_evex f) d.1 in
+    let zero : f.v ≡ 0 = eqb-true _ _ e.0 in
+    record { fit = b.0; vvvv = omega arith }
+registers-in Vex f r h =
+    let a = and_parts (without_prefixes f) _ h in
+    let b = and_parts (bits_fit f) _ a.1 in
+    let d = and_parts (registers_fit f) _ b.1 in
+    let e = and_parts (vvvv_fits r f) _ d.1 in
+    let v = and_parts (nat_lt f.v 16) (uses_vvvv r.operands || (f.v == 0)) e.0 in
+    record { fit = d.0; vvvv = ltb-true f.v 16 v.0 }
+registers-in Evex f r h = cc
 
-pub vex-not_decoded : (f : Fields) → (f.class ≡ Vex) ⊎ (f.class ≡ Evex) → (d : Decoded) → (None ≡ some d) ↔ IsDecoded f d
-vex-not_decoded f (inl vex) d = subst (λ (c : Class). (None ≡ some d) ↔ IsDecodedIn c f d) (sym vex) (none-in f d)
-vex-not_decoded f (inr evex) d = subst (λ (c : Class). (None ≡ some d) ↔ IsDecodedIn c f d) (sym evex) (none-in f d)
-
--- an instruction has the fields that it is of
-fields-in : (c : Class) (f : Fields) (d : Decoded) → IsDecodedIn c f d → d.fields ≡ f
-fields-in Legacy f d is = is.fields
-fields-in Vex f d is = absurd is
-fields-in Evex f d is = absurd is
-
-pub decoded-fields : (f : Fields) (d : Decoded) → IsDecoded f d → d.fields ≡ f
-decoded-fields f d is = fields-in f.class f d is
+registers : (f : Fields) (d : Decoded) → IsDecoded f d → Registers f
+registers f d is = spelled-allowed (encoding_of f.class) f (registers-in f.class f) d is
 
 -- the registers of an instruction exist
-registers-in : (c : Class) (f : Fields) (d : Decoded) → IsDecodedIn c f d → registers_fit f ≡ true
-registers-in Legacy f d is = is.row.registers
-registers-in Vex f d is = absurd is
-registers-in Evex f d is = absurd is
-
 pub decoded-registers : (f : Fields) (d : Decoded) → IsDecoded f d → registers_fit f ≡ true
-decoded-registers f d is = registers-in f.class f d is
+decoded-registers f d is = (registers f d is).fit
+
+-- that in vvvv too
+pub decoded-vvvv : (f : Fields) (d : Decoded) → IsDecoded f d → f.v < 16
+decoded-vvvv f d is = (registers f d is).vvvv
 
 -- and its row is in the table
-matched-within : (f : Fields) (i : ℕ) → Matches rows f i → i < length rows
-matched-within f i (by_mark r there marked) = slice_get_within rows i r there
-matched-within f i (without_mark r there unmarked none) = slice_get_within rows i r there
-
-row-in : (c : Class) (f : Fields) (d : Decoded) → IsDecodedIn c f d → d.row < length rows
-row-in Legacy f d is = matched-within f d.row is.row.matches
-row-in Vex f d is = absurd is
-row-in Evex f d is = absurd is
-
 pub decoded-row : (f : Fields) (d : Decoded) → IsDecoded f d → d.row < length rows
-decoded-row f d is = row-in f.class f d is
+decoded-row f d is = spelled-within (encoding_of f.class) f d is

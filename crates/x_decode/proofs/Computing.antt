@@ -5,13 +5,14 @@ use Rattle.std.proofs.lemmas.Bool.{lt-ltb, le-ltb}
 use Rattle.std.proofs.lemmas.List.{take-append-le, length-take}
 use Rattle.row_table.specs.declared.kinds.Fields.{Fields}
 use Rattle.row_table.specs.declared.kinds.Decoded.{Decoded}
+use Rattle.row_table.specs.Spelling.{spelled}
 use Rattle.form_scan.specs.declared.kinds.Scan.TheVariants.{Whole, Short as Cut, Dead}
 use Rattle.form_scan.specs.declared.kinds.Payload.{Payload}
 use Rattle.form_scan.specs.Shaped.{within_limit, escape, Part, by_escape, by_vex_two, by_vex_three, by_evex, Shaped, IsWhole}
 use Rattle.form_scan.specs.Scanning.{scan_of, scanned}
 use Rattle.form_scan.specs.Reading.{fields_at}
 use Rattle.x_decode.specs.declared.kinds.Seen.TheVariants.{Short, TooLong, Bad}
-use Rattle.x_decode.specs.Seeing.{spelled_in, seen_whole, seen_of, seen}
+use Rattle.x_decode.specs.Seeing.{encoding_of, seen_whole, seen_of, seen}
 
 -- ---- an instruction has at least one byte
 part-some : (rex : ℕ) (part : List ℕ) (k : Payload) (o : ℕ) → Part rex part k o → 1 ≤ length part
@@ -31,11 +32,11 @@ whole-some bytes f n w = let l = shaped-some (take n bytes) f w.shaped in omega 
 
 -- ---- by what the scan answers
 module _ (bytes : List ℕ) where
-  pub whole-seen : (f : Fields) (n : ℕ) (o : Option Decoded) → Whole f n ≡ scanned bytes → o ≡ spelled_in f.class f → seen_whole n o ≡ seen bytes
+  pub whole-seen : (f : Fields) (n : ℕ) (o : Option Decoded) → Whole f n ≡ scanned bytes → o ≡ spelled (encoding_of f.class) f → seen_whole n o ≡ seen bytes
   unfolding seen
   whole-seen f n o e h = ap (seen_whole n) h ∙ ap (seen_of (length bytes)) e
 
-  pub whole-stays : (f : Fields) (n : ℕ) (o : Option Decoded) → ((more : List ℕ) → scanned (bytes ++ more) ≡ Whole f n) → o ≡ spelled_in f.class f
+  pub whole-stays : (f : Fields) (n : ℕ) (o : Option Decoded) → ((more : List ℕ) → scanned (bytes ++ more) ≡ Whole f n) → o ≡ spelled (encoding_of f.class) f
       → (more : List ℕ) → seen (bytes ++ more) ≡ seen_whole n o
   unfolding seen
   whole-stays f n o stays h more = ap (seen_of (length (bytes ++ more))) (stays more) ∙ ap (seen_whole n) (sym h)

@@ -10,16 +10,16 @@ use Rattle.row_table.specs.Vex.{vex_rows, vex_0f, vex_0f38, vex_0f3a}
 use Rattle.row_table.specs.Letters.{layout_of, letters}
 use Rattle.row_table.specs.Rows.{rows}
 use Rattle.row_table.specs.Matching.{fits, matched, shape_at, map_used}
+use Rattle.row_table.specs.Spelling.{spelled}
 use Rattle.form_scan.specs.Front.{in_front}
-use Rattle.form_scan.specs.Payload.{of_rex}
+use Rattle.form_scan.specs.Payload.{of_rex, of_vex_two}
 use Rattle.form_scan.specs.Shaped.{within_limit, number_of, signed_of, fields_of}
 use Rattle.form_scan.specs.Reading.{after, lead_at, shaped_head, opcode_at, long_at, escape_at, vex_two_at, head_at, optional_at, chunk_at, tail_at, fields_at}
 use Rattle.form_scan.specs.Scanning.{scanned}
 use Rattle.legacy_decode.specs.Lock.{operation_locks, writes_rm, lock_fits}
-use Rattle.legacy_decode.specs.Spelling.{spelled}
 use Rattle.x_decode.specs.declared.kinds.Seen.{Seen}
 use Rattle.x_decode.specs.declared.kinds.Seen.TheVariants.{Instr, Short, TooLong, Bad}
-use Rattle.x_decode.specs.Seeing.{seen}
+use Rattle.x_decode.specs.Seeing.{encoding_of, seen}
 
 abbrev length_of : Seen → Option ℕ
 length_of (Instr d n) = Some n
@@ -35,58 +35,58 @@ operation_of Bad = None
 
 -- B0 05: MOV AL, 5
 mov : operation_of (seen (0xB0 ∷ 5 ∷ [])) ≡ Some (Core Mov)
-unfolding seen scanned within_limit fields_at lead_at in_front after head_at shaped_head of_rex shape_at tail_at optional_at chunk_at fields_of number_of signed_of spelled matched fits lock_fits operation_locks writes_rm layout_of letters rows legacy one_byte two_byte three_byte vex_rows vex_0f vex_0f38 vex_0f3a
+unfolding seen scanned within_limit fields_at lead_at in_front after head_at shaped_head of_rex shape_at tail_at optional_at chunk_at fields_of number_of signed_of encoding_of spelled matched fits lock_fits operation_locks writes_rm layout_of letters rows legacy one_byte two_byte three_byte vex_rows vex_0f vex_0f38 vex_0f3a
 mov = refl
 
 mov-length : length_of (seen (0xB0 ∷ 5 ∷ [])) ≡ Some 2
-unfolding seen scanned within_limit fields_at lead_at in_front after head_at shaped_head of_rex shape_at tail_at optional_at chunk_at fields_of number_of signed_of spelled matched fits lock_fits operation_locks writes_rm layout_of letters rows legacy one_byte two_byte three_byte vex_rows vex_0f vex_0f38 vex_0f3a
+unfolding seen scanned within_limit fields_at lead_at in_front after head_at shaped_head of_rex shape_at tail_at optional_at chunk_at fields_of number_of signed_of encoding_of spelled matched fits lock_fits operation_locks writes_rm layout_of letters rows legacy one_byte two_byte three_byte vex_rows vex_0f vex_0f38 vex_0f3a
 mov-length = refl
 
 -- F3 C3: RET, since F3 has no meaning before it
 ret : operation_of (seen (0xF3 ∷ 0xC3 ∷ [])) ≡ Some (Core Ret)
-unfolding seen scanned within_limit fields_at lead_at in_front after head_at shaped_head of_rex shape_at tail_at optional_at chunk_at fields_of number_of signed_of spelled matched fits lock_fits operation_locks writes_rm layout_of letters rows legacy one_byte two_byte three_byte vex_rows vex_0f vex_0f38 vex_0f3a
+unfolding seen scanned within_limit fields_at lead_at in_front after head_at shaped_head of_rex shape_at tail_at optional_at chunk_at fields_of number_of signed_of encoding_of spelled matched fits lock_fits operation_locks writes_rm layout_of letters rows legacy one_byte two_byte three_byte vex_rows vex_0f vex_0f38 vex_0f3a
 ret = refl
 
 ret-length : length_of (seen (0xF3 ∷ 0xC3 ∷ [])) ≡ Some 2
-unfolding seen scanned within_limit fields_at lead_at in_front after head_at shaped_head of_rex shape_at tail_at optional_at chunk_at fields_of number_of signed_of spelled matched fits lock_fits operation_locks writes_rm layout_of letters rows legacy one_byte two_byte three_byte vex_rows vex_0f vex_0f38 vex_0f3a
+unfolding seen scanned within_limit fields_at lead_at in_front after head_at shaped_head of_rex shape_at tail_at optional_at chunk_at fields_of number_of signed_of encoding_of spelled matched fits lock_fits operation_locks writes_rm layout_of letters rows legacy one_byte two_byte three_byte vex_rows vex_0f vex_0f38 vex_0f3a
 ret-length = refl
 
 -- 66 2E 0F 1F 84 and a displacement: NOP
 nop : operation_of (seen (0x66 ∷ 0x2E ∷ 0x0F ∷ 0x1F ∷ 0x84 ∷ replicate 5 0)) ≡ Some (Core Nop)
-unfolding seen scanned within_limit fields_at lead_at in_front after escape_at head_at shaped_head of_rex shape_at tail_at optional_at chunk_at fields_of number_of signed_of spelled matched fits lock_fits operation_locks writes_rm layout_of letters rows legacy one_byte two_byte three_byte vex_rows vex_0f vex_0f38 vex_0f3a
+unfolding seen scanned within_limit fields_at lead_at in_front after escape_at head_at shaped_head of_rex shape_at tail_at optional_at chunk_at fields_of number_of signed_of encoding_of spelled matched fits lock_fits operation_locks writes_rm layout_of letters rows legacy one_byte two_byte three_byte vex_rows vex_0f vex_0f38 vex_0f3a
 nop = refl
 
 nop-length : length_of (seen (0x66 ∷ 0x2E ∷ 0x0F ∷ 0x1F ∷ 0x84 ∷ replicate 5 0)) ≡ Some 10
-unfolding seen scanned within_limit fields_at lead_at in_front after escape_at head_at shaped_head of_rex shape_at tail_at optional_at chunk_at fields_of number_of signed_of spelled matched fits lock_fits operation_locks writes_rm layout_of letters rows legacy one_byte two_byte three_byte vex_rows vex_0f vex_0f38 vex_0f3a
+unfolding seen scanned within_limit fields_at lead_at in_front after escape_at head_at shaped_head of_rex shape_at tail_at optional_at chunk_at fields_of number_of signed_of encoding_of spelled matched fits lock_fits operation_locks writes_rm layout_of letters rows legacy one_byte two_byte three_byte vex_rows vex_0f vex_0f38 vex_0f3a
 nop-length = refl
 
 -- 66 0F 38 F0 00: MOVBE of 16 bits, in the map of 0F38
 movbe : operation_of (seen (0x66 ∷ 0x0F ∷ 0x38 ∷ 0xF0 ∷ 0 ∷ [])) ≡ Some (Core Movbe)
-unfolding seen scanned within_limit fields_at lead_at in_front after escape_at long_at map_used opcode_at head_at shaped_head of_rex shape_at tail_at optional_at chunk_at fields_of number_of signed_of spelled matched fits lock_fits operation_locks writes_rm layout_of letters rows legacy one_byte two_byte three_byte vex_rows vex_0f vex_0f38 vex_0f3a
+unfolding seen scanned within_limit fields_at lead_at in_front after escape_at long_at map_used opcode_at head_at shaped_head of_rex shape_at tail_at optional_at chunk_at fields_of number_of signed_of encoding_of spelled matched fits lock_fits operation_locks writes_rm layout_of letters rows legacy one_byte two_byte three_byte vex_rows vex_0f vex_0f38 vex_0f3a
 movbe = refl
 
 movbe-length : length_of (seen (0x66 ∷ 0x0F ∷ 0x38 ∷ 0xF0 ∷ 0 ∷ [])) ≡ Some 5
-unfolding seen scanned within_limit fields_at lead_at in_front after escape_at long_at map_used opcode_at head_at shaped_head of_rex shape_at tail_at optional_at chunk_at fields_of number_of signed_of spelled matched fits lock_fits operation_locks writes_rm layout_of letters rows legacy one_byte two_byte three_byte vex_rows vex_0f vex_0f38 vex_0f3a
+unfolding seen scanned within_limit fields_at lead_at in_front after escape_at long_at map_used opcode_at head_at shaped_head of_rex shape_at tail_at optional_at chunk_at fields_of number_of signed_of encoding_of spelled matched fits lock_fits operation_locks writes_rm layout_of letters rows legacy one_byte two_byte three_byte vex_rows vex_0f vex_0f38 vex_0f3a
 movbe-length = refl
 
 -- F2 0F 38 F0 C1: CRC32, of which the table has no row; the rows of MOVBE are marked NP and 66
 crc32 : seen (0xF2 ∷ 0x0F ∷ 0x38 ∷ 0xF0 ∷ 0xC1 ∷ []) ≡ Bad
-unfolding seen scanned within_limit fields_at lead_at in_front after escape_at long_at map_used opcode_at head_at shaped_head of_rex shape_at tail_at optional_at chunk_at fields_of number_of signed_of spelled matched fits lock_fits operation_locks writes_rm layout_of letters rows legacy one_byte two_byte three_byte vex_rows vex_0f vex_0f38 vex_0f3a
+unfolding seen scanned within_limit fields_at lead_at in_front after escape_at long_at map_used opcode_at head_at shaped_head of_rex shape_at tail_at optional_at chunk_at fields_of number_of signed_of encoding_of spelled matched fits lock_fits operation_locks writes_rm layout_of letters rows legacy one_byte two_byte three_byte vex_rows vex_0f vex_0f38 vex_0f3a
 crc32 = refl
 
 -- 0F 58 C1: ADDPS, of which the table has no row
 addps : seen (0x0F ∷ 0x58 ∷ 0xC1 ∷ []) ≡ Bad
-unfolding seen scanned within_limit fields_at lead_at in_front after escape_at head_at shaped_head of_rex shape_at tail_at optional_at chunk_at fields_of number_of signed_of spelled matched fits lock_fits operation_locks writes_rm layout_of letters rows legacy one_byte two_byte three_byte vex_rows vex_0f vex_0f38 vex_0f3a
+unfolding seen scanned within_limit fields_at lead_at in_front after escape_at head_at shaped_head of_rex shape_at tail_at optional_at chunk_at fields_of number_of signed_of encoding_of spelled matched fits lock_fits operation_locks writes_rm layout_of letters rows legacy one_byte two_byte three_byte vex_rows vex_0f vex_0f38 vex_0f3a
 addps = refl
 
--- C5 F8 77: VZEROUPPER, and the table has no row of VEX
+-- C5 F8 77: VZEROUPPER, of which the table has no row
 vzeroupper : seen (0xC5 ∷ 0xF8 ∷ 0x77 ∷ []) ≡ Bad
-unfolding seen scanned within_limit fields_at lead_at in_front after vex_two_at map_used head_at shaped_head of_rex shape_at tail_at optional_at chunk_at fields_of number_of signed_of spelled matched fits lock_fits operation_locks writes_rm layout_of letters rows legacy one_byte two_byte three_byte vex_rows vex_0f vex_0f38 vex_0f3a
+unfolding seen scanned within_limit fields_at lead_at in_front after vex_two_at map_used opcode_at head_at shaped_head of_rex of_vex_two shape_at tail_at optional_at chunk_at fields_of number_of signed_of encoding_of spelled matched fits lock_fits operation_locks writes_rm layout_of letters rows legacy one_byte two_byte three_byte vex_rows vex_0f vex_0f38 vex_0f3a
 vzeroupper = refl
 
 -- F0 31 C0: XOR of a register, where LOCK may not stand
 locked : seen (0xF0 ∷ 0x31 ∷ 0xC0 ∷ []) ≡ Bad
-unfolding seen scanned within_limit fields_at lead_at in_front after head_at shaped_head of_rex shape_at tail_at optional_at chunk_at fields_of number_of signed_of spelled matched fits lock_fits operation_locks writes_rm layout_of letters rows legacy one_byte two_byte three_byte vex_rows vex_0f vex_0f38 vex_0f3a
+unfolding seen scanned within_limit fields_at lead_at in_front after head_at shaped_head of_rex shape_at tail_at optional_at chunk_at fields_of number_of signed_of encoding_of spelled matched fits lock_fits operation_locks writes_rm layout_of letters rows legacy one_byte two_byte three_byte vex_rows vex_0f vex_0f38 vex_0f3a
 locked = refl
 
 -- three prefixes alone, and fifteen

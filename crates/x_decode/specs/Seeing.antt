@@ -1,27 +1,33 @@
 -- What a decoder sees in some bytes: an instruction, the first bytes of one, or neither.
-use Rattle.std.specs.Prelude.{ℕ, ◌≡◌, ◌↔◌, ◌<◌, ◌≤◌, nat_lt, List, ◌++◌, length, Option, Some, None, ⊤, if◌then◌else◌}
+use Rattle.std.specs.Prelude.{ℕ, ◌≡◌, ◌↔◌, ◌<◌, ◌≤◌, nat_lt, false, List, ◌++◌, length, Option, Some, None, ⊤, if◌then◌else◌}
 use Rattle.row_table.specs.declared.kinds.Class.{Class}
 use Rattle.row_table.specs.declared.kinds.Class.TheVariants.{Legacy, Vex, Evex}
 use Rattle.row_table.specs.declared.kinds.Fields.{Fields}
 use Rattle.row_table.specs.declared.kinds.Decoded.{Decoded}
 use Rattle.row_table.specs.Rows.{rows}
+use Rattle.row_table.specs.Spelling.{Encoding, IsSpelled, spelled}
 use Rattle.form_scan.specs.declared.kinds.Scan.{Scan}
 use Rattle.form_scan.specs.declared.kinds.Scan.TheVariants.{Whole, Short as Cut, Dead}
 use Rattle.form_scan.specs.Shaped.{most_bytes, within_limit, IsWhole, IsCut}
 use Rattle.form_scan.specs.Scanning.{scanned}
-use Rattle.legacy_decode.specs.Spelling.{IsLegacyDecoded, spelled}
+use Rattle.legacy_decode.specs.Spelling.{legacy_encoding}
+use Rattle.vex_decode.specs.Spelling.{vex_encoding}
 use Rattle.x_decode.specs.declared.kinds.Seen.{Seen}
 use Rattle.x_decode.specs.declared.kinds.Seen.TheVariants.{Instr, Short, TooLong, Bad}
 
--- by the rules of the class; the table has no row of VEX and EVEX yet
-abbrev pub IsDecodedIn : Class → Fields → Decoded → Type 0
-IsDecodedIn Legacy f d = IsLegacyDecoded f d
-IsDecodedIn Vex f d = ⊥
-IsDecodedIn Evex f d = ⊥
+-- an encoding that has no instruction
+abbrev pub no_encoding : Encoding
+no_encoding = record { allows = λ r f. false; displacement = λ r f. f.disp }
 
--- the instruction is that of the fields: these fields, a row that they spell, and their displacement
+-- the encoding of each class; the table has no row of EVEX yet
+unfoldable pub encoding_of : Class → Encoding
+encoding_of Legacy = legacy_encoding
+encoding_of Vex = vex_encoding
+encoding_of Evex = no_encoding
+
+-- the instruction is that of the fields, by the rules of their class: these fields, a row that they spell, and their displacement
 abbrev pub IsDecoded : Fields → Decoded → Type 0
-IsDecoded f d = IsDecodedIn f.class f d
+IsDecoded f d = IsSpelled (encoding_of f.class) f d
 
 -- The first n of the first fifteen bytes are an instruction with the fields of `d`. They spell the row of
 -- `d`, and its displacement is theirs.
@@ -54,12 +60,6 @@ InRange bytes TooLong = ⊤
 InRange bytes Bad = ⊤
 
 -- ---- the same, computed
--- the instruction that the fields are, by the rules of their class
-abbrev pub spelled_in : Class → Fields → Option Decoded
-spelled_in Legacy f = spelled f
-spelled_in Vex f = None
-spelled_in Evex f = None
-
 -- an instruction of n bytes, if there is one
 abbrev pub seen_whole : ℕ → Option Decoded → Seen
 seen_whole n None = Bad
@@ -67,7 +67,7 @@ seen_whole n (Some d) = Instr d n
 
 -- of so many bytes, by what a scan of them answers
 abbrev pub seen_of : ℕ → Scan → Seen
-seen_of count (Whole f n) = seen_whole n (spelled_in f.class f)
+seen_of count (Whole f n) = seen_whole n (spelled (encoding_of f.class) f)
 seen_of count Cut = if nat_lt count most_bytes then Short else TooLong
 seen_of count Dead = Bad
 

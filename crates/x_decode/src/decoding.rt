@@ -1,24 +1,22 @@
 //! Which instruction some bytes begin with.
-ghost use Rattle.std.specs.Prelude.{◌≡◌, ◌↔◌, ◌<◌, length, IfSome};
-ghost use Rattle.row_table.specs.declared.kinds.Decoded.{Decoded as AnyDecoded};
-ghost use Rattle.row_table.specs.Rows.{rows};
-ghost use Rattle.x_decode.specs.Seeing.{IsDecoded, IsSeen, spelled_in};
+ghost use Rattle.row_table.specs.Spelling.{IsSpelling};
+ghost use Rattle.x_decode.specs.Seeing.{encoding_of, IsSeen};
 
 use crate::kinds::Seen;
 use form_scan::{LIMIT, Scan, scan};
 use legacy_decode::match_legacy;
 use row_table::{Class, Decoded, Fields};
+use vex_decode::match_vex;
 
 /// The instruction with these fields, by the rules of their class.
 fn matched(fields: &Fields) -> Option<Decoded>
-    ensures within { IfSome result (λ d. d.row < length rows) }
-    ensures some { (d : AnyDecoded) → (result ≡ Some d) ↔ IsDecoded fields.now d }
-    ensures value { result ≡ spelled_in fields.now.class fields.now }
+    ensures { IsSpelling (encoding_of fields.now.class) fields.now result }
 {
     match fields.class {
         Class::Legacy => match_legacy(fields),
-        // The table has no row of these yet.
-        Class::Vex | Class::Evex => None,
+        Class::Vex => match_vex(fields),
+        // The table has no row of it yet.
+        Class::Evex => None,
     }
 }
 

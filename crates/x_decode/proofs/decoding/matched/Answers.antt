@@ -1,8 +1,22 @@
-use Rattle.x_decode.proofs.Classes.{legacy-decoded, vex-not_decoded}
+use Rattle.std.proofs.Common.{refl, sym, subst}
+use Rattle.row_table.specs.declared.kinds.Class.{Class}
+use Rattle.row_table.specs.Spelling.{IsSpelling}
+use Rattle.row_table.proofs.Spelled.{nothing-allowed}
+use Rattle.x_decode.specs.Seeing.{encoding_of, no_encoding}
 use Rattle.x_decode.proofs.decoding.matched.Goals as goal
 
-pub returns-in-Legacy-clause-some : goal.returns-in-Legacy-clause-some
-returns-in-Legacy-clause-some c = legacy-decoded c.args.fields.now c.match_legacy.result c.in-Legacy.is c.match_legacy.ensures.some
+pub returns-in-Legacy : goal.returns-in-Legacy
+unfolding encoding_of
+returns-in-Legacy c =
+    subst (λ (k : Class). IsSpelling (encoding_of k) c.args.fields.now c.match_legacy.result) (sym c.in-Legacy.is) c.match_legacy.ensures
 
-pub returns-in-Vex-clause-some : goal.returns-in-Vex-clause-some
-returns-in-Vex-clause-some c = vex-not_decoded c.args.fields.now c.in-Vex.is
+pub returns-in-Vex : goal.returns-in-Vex
+unfolding encoding_of
+returns-in-Vex c =
+    subst (λ (k : Class). IsSpelling (encoding_of k) c.args.fields.now c.match_vex.result) (sym c.in-Vex.is) c.match_vex.ensures
+
+pub returns-in-Evex : goal.returns-in-Evex
+unfolding encoding_of
+returns-in-Evex c =
+    subst (λ (k : Class). IsSpelling (encoding_of k) c.args.fields.now _) (sym c.in-Evex.is)
+    (nothing-allowed no_encoding c.args.fields.now (λ r. refl))
