@@ -5,7 +5,7 @@ use Rattle.machine_state.specs.declared.kinds.Stop.{Stop}
 use Rattle.guest_pages.specs.Pages.{table_of, byte_of, memory_of}
 use Rattle.guest_pages.specs.Walk.{walk}
 use Rattle.row_table.specs.declared.kinds.Fields.{Fields}
-use Rattle.legacy_decode.specs.Spelling.{registers_fit}
+use Rattle.row_table.specs.Spelling.{registers_fit}
 use Rattle.x_decode.proofs.Classes.{decoded-registers, decoded-row}
 use Rattle.core_step.specs.declared.acted.Acted.{Acted}
 use Rattle.core_step.specs.declared.acted.Acted.TheVariants.{Need}
