@@ -23,9 +23,9 @@ component_value component e =
     else if component == 7 then slice_range e.zmm 16 32
     else []
 
--- whether a component has different values in two states
-abbrev pub is_changed : (old new : Extended) → (component : ℕ) → Bool
-is_changed old new component = not (pointwise (pointwise nat_eq) (component_value component old) (component_value component new))
+-- whether a component has the same value in two states
+abbrev pub is_same : (old new : Extended) → (component : ℕ) → Bool
+is_same old new component = pointwise (pointwise nat_eq) (component_value component old) (component_value component new)
 
 -- the set of the components of which something is true: bit i for component i
 unfoldable pub component_set : (ℕ → Bool) → ℕ
@@ -33,11 +33,11 @@ component_set holds = sum (map (λ component. if holds component then 2 ^ compon
 
 -- the components whose values differ
 abbrev pub changed : (old new : Extended) → ℕ
-changed old new = component_set (is_changed old new)
+changed old new = component_set (λ component. not (is_same old new component))
 
 -- the components that are in use, since their value isn't the initial one; so is SSE where MXCSR isn't 1F80H (SDM volume 1, 13.6)
 abbrev pub in_use_of : Extended → ℕ
-in_use_of e = component_set (λ component. is_changed initial_extended e component || component == 1 && not (e.mxcsr == 8064))
+in_use_of e = component_set (λ component. not (is_same e initial_extended component && (not (component == 1) || e.mxcsr == 8064)))
 
 -- the new state, of which the components that changed aren't kept any more
 abbrev pub dropping : (old new : Extended) → Extended

@@ -1,11 +1,13 @@
 //! The register file.
-ghost use Rattle.std.specs.Prelude.{◌≡◌, ◌<◌, false, slice_index, slice_get, slice_set, Some};
+ghost use Rattle.std.specs.Prelude.{◌≡◌, ◌<◌, ◌==◌, ◌&&◌, false, nat_eq, replicate, slice_index, slice_get, slice_set, slice_range, Some};
+ghost use Rattle.std.specs.Cmp.Lexicographic.{pointwise};
+ghost use Rattle.std.specs.List.{list_all};
 ghost use Rattle.gpr_flags.specs.Numbers.{has_bit};
 ghost use Rattle.machine_state.specs.State.{initial_extended, IsExtended};
 ghost use Rattle.num_lanes.specs.Components.{changed, in_use_of};
 ghost use Rattle.num_lanes.specs.Setters.{with_zmm, with_k, with_mxcsr, with_x87, restored_of, with_record};
 
-use crate::values::{are_zero, bit_unless, initial_fields, initial_registers};
+use crate::values::{are_initial, bit_unless, initial_fields, initial_registers};
 use bitflags::Flags;
 use num_lanes::{Components, Record, Vec64};
 use std::marker::Model;
@@ -21,22 +23,14 @@ pub struct VecFile {
 }
 
 impl Model for VecFile {
-    ghost use Rattle.std.specs.Prelude.{◌≡◌, ◌<◌, false, slice_index};
-    ghost use Rattle.gpr_flags.specs.Numbers.{has_bit};
-    ghost use Rattle.machine_state.specs.State.{Extended};
-    ghost use Rattle.num_lanes.specs.Setters.{restored_of};
+    ghost use Rattle.machine_state.specs.State.{Extended, IsExtended};
+    ghost use Rattle.vec_file.specs.File.{extended_of};
 
     ghost Value = { Extended };
 
-    ghost view = { λ file. record {
-      zmm = file.zmm;
-      k = file.k;
-      mxcsr = file.mxcsr;
-      x87 = file.x87;
-      restored = restored_of file.restored;
-    } };
+    ghost view = { λ file. extended_of file.zmm file.k file.mxcsr file.x87 file.restored };
 
-    ghost invariant = { λ file. (file.mxcsr < 65536) × (slice_index file.x87 5 ≡ 0) × (has_bit file.restored.kept.0 0 ≡ false) };
+    ghost invariant = { λ file. IsExtended (extended_of file.zmm file.k file.mxcsr file.x87 file.restored) };
 }
 
 impl VecFile {
@@ -62,7 +56,7 @@ impl VecFile {
     pub fn limit(&self)
         ensures { IsExtended self.now }
     {
-        let _mxcsr = self.mxcsr;
+        let _whole = &self.zmm;
     }
 
     /// The vector register `n`.
@@ -82,7 +76,7 @@ impl VecFile {
         if n < 16 {
             let sse = bit_unless(old[..16] == v[..16], Components::SSE);
             let avx = bit_unless(old[16..32] == v[16..32], Components::AVX);
-            let upper = bit_unless(old[32..] == v[32..], Components::ZMM_HI256);
+            let upper = bit_unless(old[32..64] == v[32..64], Components::ZMM_HI256);
             Components(sse + avx + upper)
         } else {
             Components(bit_unless(old == v, Components::HI16_ZMM))
@@ -154,7 +148,15 @@ impl VecFile {
         requires { slice_index v.now 5 ≡ 0 }
         ensures { self.new ≡ with_x87 v.now self.old }
     {
-        self.x87 = *v;
+        self.x87.copy_from_slice(v);
+    }
+
+    /// Whether XMM0 to XMM15 and MXCSR are initial.
+    fn is_sse_initial(&self) -> bool
+        ensures { result ≡ (list_all (λ register. pointwise nat_eq (slice_range register 0 16) (slice_range (replicate 64 0) 0 16))
+            (slice_range self.now.zmm 0 16) && self.now.mxcsr == 8064) }
+    {
+        are_initial(&self.zmm[..16], 0, 16) && self.mxcsr == 0x1F80
     }
 
     /// The components that are in use: those whose value isn't the initial one, and SSE also where MXCSR isn't 1F80H.
@@ -163,14 +165,14 @@ impl VecFile {
     {
         let low = &self.zmm[..16];
         let x87 = bit_unless(self.x87 == initial_fields(), Components::X87);
-        let sse = bit_unless(
-            are_zero(low, 0, 16) && self.mxcsr == 0x1F80,
-            Components::SSE,
+        let sse = bit_unless(self.is_sse_initial(), Components::SSE);
+        let avx = bit_unless(are_initial(low, 16, 32), Components::AVX);
+        let opmask = bit_unless(self.k == [0; 8], Components::OPMASK);
+        let upper = bit_unless(are_initial(low, 32, 64), Components::ZMM_HI256);
+        let high = bit_unless(
+            self.zmm[16..32] == initial_registers()[16..32],
+            Components::HI16_ZMM,
         );
-        let avx = bit_unless(are_zero(low, 16, 32), Components::AVX);
-        let opmask = bit_unless(self.k.iter().all(|mask| *mask == 0), Components::OPMASK);
-        let upper = bit_unless(are_zero(low, 32, 64), Components::ZMM_HI256);
-        let high = bit_unless(are_zero(&self.zmm[16..], 0, 64), Components::HI16_ZMM);
         Components(x87 + sse + avx + opmask + upper + high)
     }
 

@@ -1,5 +1,6 @@
 //! Values of state components.
-ghost use Rattle.std.specs.Prelude.{◌≡◌, ◌==◌, ◌≤◌, replicate, slice_range, if◌then◌else◌};
+ghost use Rattle.std.specs.Prelude.{◌≡◌, ◌≤◌, nat_eq, replicate, slice_range, if◌then◌else◌};
+ghost use Rattle.std.specs.Cmp.Lexicographic.{pointwise};
 ghost use Rattle.std.specs.List.{list_all};
 ghost use Rattle.machine_state.specs.State.{initial_x87};
 
@@ -23,15 +24,16 @@ pub(crate) fn initial_registers() -> [Vec64; 32]
     [[0; 64]; 32]
 }
 
-/// Whether registers are 0 in the bytes from one place to another.
-pub(crate) fn are_zero(registers: &[Vec64], from: usize, to: usize) -> bool
+/// Whether registers are initial in the bytes from one place to another.
+pub(crate) fn are_initial(registers: &[Vec64], from: usize, to: usize) -> bool
     requires order { from ≤ to }
     requires most { to ≤ 64 }
-    ensures { result ≡ list_all (λ z. list_all (λ byte. byte == 0) (slice_range z from to)) registers.now }
+    ensures { result ≡ list_all (λ register. pointwise nat_eq (slice_range register from to) (slice_range (replicate 64 0) from to))
+        registers.now }
 {
     registers
         .iter()
-        .all(|register| register[from..to].iter().all(|byte| *byte == 0))
+        .all(|register| register[from..to] == [0; 64][from..to])
 }
 
 /// The bit of a component that isn't the same as it was.
