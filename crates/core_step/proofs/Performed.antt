@@ -86,7 +86,8 @@ core-defined : (op : CoreOp) (i : Instruction) (a b c : ℕ) (flags : Flags) (st
     → core_way op ≡ Numbers → IsDefined (core_outcome op i a b c flags steps).acted
 unfolding core_performed core_way core_outcome
 core-defined Cmpxchg8b i a b c flags steps h plain e = absurd (let clash : Pair ≡ Numbers = plain in cc)
-core-defined Ldmxcsr i a b c flags steps h plain = chosen-defined (nat_lt b 65536) (gives b i flags) (faults General i flags) (λ e. cc) (λ e. cc)
+core-defined Ldmxcsr i a b c flags steps h plain e =
+    chosen-defined (nat_lt b 65536) (gives b i flags) (faults General i flags) (λ done. cc) (λ fault. cc) e
 core-defined op i a b c flags steps h plain e = cc
 
 gpr-defined : (op : GprOp) (i : Instruction) (a b c : ℕ) (flags : Flags) → IsDefined (gpr_outcome op i a b c flags).acted

@@ -1,5 +1,5 @@
 //! A cache of what was fetched before, known by its bytes.
-ghost use Rattle.std.specs.Prelude.{◌≡◌, ◌<◌, ℕ, length, vec_len, slice_index_or, IfOk};
+ghost use Rattle.std.specs.Prelude.{◌≡◌, ◌<◌, ℕ, length, vec_len, slice_index_or, IfOk, IsTrue};
 ghost use Rattle.form_scan.specs.Shaped.{most_bytes};
 ghost use Rattle.core_step.specs.Fetch.{IsOutcome};
 
@@ -33,6 +33,13 @@ impl Sighting {
         }
     }
 
+    /// Whether it is one of these bytes.
+    fn is_of(&self, bytes: &[u8]) -> bool
+        ensures { IsTrue result → self.now.bytes ≡ bytes.now }
+    {
+        self.bytes[..] == bytes[..]
+    }
+
     /// Makes it one of these bytes, unless it is one already.
     fn renew(&mut self, bytes: &[u8])
         requires len { length bytes.now ≡ most_bytes }
@@ -40,7 +47,7 @@ impl Sighting {
         ensures bytes { self.new.bytes ≡ bytes.now }
         ensures fetched { IsOutcome self.new.bytes self.new.fetched }
     {
-        if self.bytes[..] != bytes[..] {
+        if !self.is_of(bytes) {
             *self = Sighting::of(bytes);
         }
     }

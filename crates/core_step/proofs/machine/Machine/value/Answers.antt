@@ -4,7 +4,7 @@ use Rattle.guest_pages.specs.Walk.{walk}
 use Rattle.core_step.specs.declared.kinds.Operand.{Operand}
 use Rattle.core_step.specs.Access.{operand_access}
 use Rattle.core_step.proofs.Walks.{free-memory}
-use Rattle.core_step.proofs.values.Machine.value.Goals as goal
+use Rattle.core_step.proofs.machine.Machine.value.Goals as goal
 
 pub load-requires-clause-ready : goal.load-requires-clause-ready
 load-requires-clause-ready c =
