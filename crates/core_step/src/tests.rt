@@ -254,11 +254,15 @@ fn mxcsr_is_loaded_and_stored(rt: HostRuntime) -> Result<(), Fail> {
             m.rip = CODE + 0x200;
             assert_eq!(rt; m.pages.write(CODE + 0x200, store), Ok(()));
             assert_eq!(rt; step(&rt, &mut m), Acted::Done, "at {store:?}");
-            let mut left = [0; 12];
-            assert_eq!(rt; m.pages.read(DATA + 0x100, &mut left, Kind::Read), Ok(()));
-            assert_eq!(rt; left[..4], number.to_le_bytes());
-            assert_eq!(rt; left[4..8], number.to_le_bytes(), "at {store:?}");
-            assert_eq!(rt; left[8..], [0x39, 0x40, 0x47, 0x4E], "at {store:?}");
+            let mut loaded = [0; 4];
+            let mut stored = [0; 4];
+            let mut behind = [0; 4];
+            assert_eq!(rt; m.pages.read(DATA + 0x100, &mut loaded, Kind::Read), Ok(()));
+            assert_eq!(rt; m.pages.read(DATA + 0x104, &mut stored, Kind::Read), Ok(()));
+            assert_eq!(rt; m.pages.read(DATA + 0x108, &mut behind, Kind::Read), Ok(()));
+            assert_eq!(rt; loaded, number.to_le_bytes());
+            assert_eq!(rt; stored, number.to_le_bytes(), "at {store:?}");
+            assert_eq!(rt; behind, [0x39, 0x40, 0x47, 0x4E], "at {store:?}");
             assert_eq!(rt; m.flags.word(), 0x203);
         }
     }
