@@ -144,6 +144,7 @@ impl Machine {
     }
 
     // The instruction of a row and its fields, by the way in which it is performed.
+    #[inline(never)]
     #[tactic(auto, unfolding(crate::specs::Plan::plan_of))]
     pub(crate) fn plan_for(&self, row: &Row, d: &Decoded, len: u8) -> Plan
         requires { RegistersFit d.now.fields }

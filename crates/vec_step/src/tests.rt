@@ -24,6 +24,7 @@ const FROM_15_UP: [u8; 16] = [
 ];
 
 /// The registers and pages that an instruction finds.
+#[derive(Drop)]
 struct Seat {
     gprs: Gprs,
     flags: Flags,
