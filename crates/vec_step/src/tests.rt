@@ -33,7 +33,7 @@ struct Seat {
 }
 
 /// Register n has 16 n and one more in each byte, and the last bytes before the missing page count up to FFH.
-fn seat(rt: &impl Abort, alloc: Global) -> Result<Seat, Fail> {
+fn make_seat(rt: &impl Abort, alloc: Global) -> Result<Seat, Fail> {
     let mut pages = Pages::new(alloc, 8, 16)?;
     assert_eq!(rt; pages.map_page(0x10_0000, Perms(3)), Ok(()));
     assert_eq!(rt; pages.write(LAST, &FROM_15_UP), Ok(()));
@@ -174,7 +174,7 @@ fn bytes(below: u8, place: usize, above: u8) -> Vec64 {
 fn legacy_rows_keep_the_bytes_above_and_vex_clears_them(rt: HostRuntime) -> Result<(), Fail> {
     let legacy = row(Class::Legacy, Op::Lane(LaneOp::Pxor), 32, Operands::VxWx);
     let vex = row(Class::Vex, Op::Lane(LaneOp::Padd), 8, Operands::VxHxWx);
-    let mut s = seat(&rt, rt.alloc())?;
+    let mut s = make_seat(&rt, rt.alloc())?;
     assert_eq!(rt;
         step(&mut s, &legacy, &fields(0, 0), &REGISTERS),
         Some(Ok(()))
@@ -191,7 +191,7 @@ fn legacy_rows_keep_the_bytes_above_and_vex_clears_them(rt: HostRuntime) -> Resu
 fn shifts_take_an_immediate_or_a_vector(rt: HostRuntime) -> Result<(), Fail> {
     let by_number = row(Class::Vex, Op::Lane(LaneOp::Psrl), 32, Operands::HxUxIb);
     let of_itself = row(Class::Legacy, Op::Lane(LaneOp::Psll), 16, Operands::UxIb);
-    let mut s = seat(&rt, rt.alloc())?;
+    let mut s = make_seat(&rt, rt.alloc())?;
     assert_eq!(rt;
         step(&mut s, &by_number, &fields(0, 8), &REGISTERS),
         Some(Ok(()))
@@ -231,7 +231,7 @@ fn elements_move_between_kinds_of_registers(rt: HostRuntime) -> Result<(), Fail>
     let load = scalar(Class::Legacy, LaneOp::Movd, 32, Operands::VxEv);
     let store = scalar(Class::Vex, LaneOp::Movd, 64, Operands::EvVx);
     let narrow = scalar(Class::Vex, LaneOp::Movd, 32, Operands::EvVx);
-    let mut s = seat(&rt, rt.alloc())?;
+    let mut s = make_seat(&rt, rt.alloc())?;
     s.gprs.set(3, 0x1122_3344_5566_7788);
     assert_eq!(rt;
         step(&mut s, &load, &fields(0, 0), &REGISTERS),
@@ -267,7 +267,7 @@ fn bits_go_to_a_general_register_or_to_the_flags(rt: HostRuntime) -> Result<(), 
         Operands::GvUx,
     );
     let test = row(Class::Vex, Op::Vector(VectorOp::Ptest), 64, Operands::VxWx);
-    let mut s = seat(&rt, rt.alloc())?;
+    let mut s = make_seat(&rt, rt.alloc())?;
     s.gprs.set(1, u64::MAX);
     s.vec.set_zmm(3, &bytes(0x80, 5, 0));
     assert_eq!(rt;
@@ -279,13 +279,13 @@ fn bits_go_to_a_general_register_or_to_the_flags(rt: HostRuntime) -> Result<(), 
         step(&mut s, &test, &fields(0, 0), &REGISTERS),
         Some(Ok(()))
     );
-    assert_eq!(rt; s.flags.word(), 0x42);
+    assert_eq!(rt; s.flags.word(), 0x242);
     s.vec.set_zmm(3, &[1; 64]);
     assert_eq!(rt;
         step(&mut s, &test, &fields(0, 0), &REGISTERS),
         Some(Ok(()))
     );
-    assert_eq!(rt; s.flags.word(), 3);
+    assert_eq!(rt; s.flags.word(), 0x203);
     assert_eq!(rt; *s.vec.zmm(1), [0x11; 64]);
     Ok(())
 }
@@ -301,7 +301,7 @@ fn memory_is_accessed_by_lanes_or_whole(rt: HostRuntime) -> Result<(), Fail> {
     let load = row(Class::Vex, Op::Lane(LaneOp::Movdqu), 32, Operands::VxWx);
     let store = row(Class::Vex, Op::Lane(LaneOp::Movdqu), 32, Operands::WxVx);
     let quarter = scalar(Class::Vex, LaneOp::Movq, 64, Operands::VxWx);
-    let mut s = seat(&rt, rt.alloc())?;
+    let mut s = make_seat(&rt, rt.alloc())?;
     assert_eq!(rt; step(&mut s, &load, &fields(0, 0), &at(LAST)), Some(Ok(())));
     assert_eq!(rt; &s.vec.zmm(1)[..16], FROM_15_UP.as_slice());
     assert_eq!(rt;
