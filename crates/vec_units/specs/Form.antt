@@ -15,6 +15,10 @@ use Rattle.vec_units.specs.Compute.{is_vector}
 abbrev pub len_of : (l : ℕ) → ℕ
 len_of l = if l == 0 then 16 else if l == 1 then 32 else 64
 
+-- a row whose vectors have 128 bits whatever L is takes no length from it (SDM volume 2, 3.1.1.2, LIG)
+abbrev pub vector_len : Row → (l : ℕ) → ℕ
+vector_len row l = if row.lengths == 8 then 16 else len_of l
+
 -- legacy rows leave the bytes above the vectors as they were (SDM volume 1, 14.1.3)
 abbrev pub is_legacy : Class → Bool
 is_legacy Legacy = true
@@ -25,8 +29,8 @@ unfoldable pub form_of : Row → Fields → Form
 form_of row f = record {
   op = row.op;
   width = row.width / 8;
-  lanes = len_of f.l / (row.width / 8);
-  len = len_of f.l;
+  lanes = vector_len row f.l / (row.width / 8);
+  len = vector_len row f.l;
   imm = f.imm % 256;
   masking = row.mask;
   zeroing = f.z;

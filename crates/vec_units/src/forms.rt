@@ -1,6 +1,6 @@
 //! What of a row and its fields a vector result depends on.
 ghost use Rattle.std.specs.Prelude.{◌≡◌};
-ghost use Rattle.vec_units.specs.Form.{form_of, FormFits, IsVectorRow, len_of, is_legacy as is_legacy_class};
+ghost use Rattle.vec_units.specs.Form.{form_of, FormFits, IsVectorRow, len_of, vector_len as vector_len_of, is_legacy as is_legacy_class};
 
 use row_table::{Class, Fields, MaskKind, Op, Row};
 
@@ -32,6 +32,13 @@ fn len_for(l: u8) -> u8
     }
 }
 
+/// The bytes of the vectors of a row: of 128 bits where it ignores the length field.
+fn vector_len(row: &Row, l: u8) -> u8
+    ensures { result ≡ vector_len_of row.now l }
+{
+    if row.lengths == 8 { 16 } else { len_for(l) }
+}
+
 /// Whether the bytes above the vectors stay.
 fn is_legacy(class: Class) -> bool
     ensures { result ≡ is_legacy_class class }
@@ -50,7 +57,7 @@ pub fn form_for(row: &Row, fields: &Fields) -> Form
     ensures fits { FormFits result }
 {
     let width = row.width / 8;
-    let len = len_for(fields.l);
+    let len = vector_len(row, fields.l);
     Form {
         op: row.op,
         width,
