@@ -4,7 +4,7 @@ use Rattle.std.proofs.Common.{◌≡◌, ℕ, [], ◌∷◌, replicate, slice_ge
 use Rattle.std.specs.Option.{option_map}
 use Rattle.row_table.specs.declared.operations.Op.{Op}
 use Rattle.row_table.specs.declared.operations.Op.TheVariants.{Core}
-use Rattle.row_table.specs.declared.operations.CoreOp.TheVariants.{Mov, Movbe, Nop, Ret}
+use Rattle.row_table.specs.declared.operations.CoreOp.TheVariants.{Mov, Movbe, Nop, Ret, Vzeroupper}
 use Rattle.row_table.specs.Legacy.{legacy, one_byte, two_byte, three_byte}
 use Rattle.row_table.specs.Vex.{vex_rows, vex_0f, vex_0f38, vex_0f3a}
 use Rattle.row_table.specs.Letters.{layout_of, letters}
@@ -79,10 +79,15 @@ addps : seen (0x0F ∷ 0x58 ∷ 0xC1 ∷ []) ≡ Bad
 unfolding seen scanned within_limit fields_at lead_at in_front after escape_at head_at shaped_head of_rex shape_at tail_at optional_at chunk_at fields_of number_of signed_of encoding_of spelled matched fits lock_fits operation_locks writes_rm layout_of letters rows legacy one_byte two_byte three_byte vex_rows vex_0f vex_0f38 vex_0f3a
 addps = refl
 
--- C5 F8 77: VZEROUPPER, of which the table has no row
-vzeroupper : seen (0xC5 ∷ 0xF8 ∷ 0x77 ∷ []) ≡ Bad
+-- C5 F8 77: VZEROUPPER, without ModRM
+vzeroupper : operation_of (seen (0xC5 ∷ 0xF8 ∷ 0x77 ∷ [])) ≡ Some (Core Vzeroupper)
 unfolding seen scanned within_limit fields_at lead_at in_front after vex_two_at map_used opcode_at head_at shaped_head of_rex of_vex_two shape_at tail_at optional_at chunk_at fields_of number_of signed_of encoding_of spelled matched fits lock_fits operation_locks writes_rm layout_of letters rows legacy one_byte two_byte three_byte vex_rows vex_0f vex_0f38 vex_0f3a
 vzeroupper = refl
+
+-- C5 FC 58 C1: VADDPS, of which the table has no row
+vaddps : seen (0xC5 ∷ 0xFC ∷ 0x58 ∷ 0xC1 ∷ []) ≡ Bad
+unfolding seen scanned within_limit fields_at lead_at in_front after vex_two_at map_used opcode_at head_at shaped_head of_rex of_vex_two shape_at tail_at optional_at chunk_at fields_of number_of signed_of encoding_of spelled matched fits lock_fits operation_locks writes_rm layout_of letters rows legacy one_byte two_byte three_byte vex_rows vex_0f vex_0f38 vex_0f3a
+vaddps = refl
 
 -- F0 31 C0: XOR of a register, where LOCK may not stand
 locked : seen (0xF0 ∷ 0x31 ∷ 0xC0 ∷ []) ≡ Bad
