@@ -1,13 +1,13 @@
 //! The register file.
-ghost use Rattle.std.specs.Prelude.{◌≡◌, ◌<◌, ◌==◌, ◌&&◌, false, nat_eq, replicate, slice_index, slice_get, slice_set, slice_range, Some};
+ghost use Rattle.std.specs.Prelude.{◌≡◌, ◌<◌, ◌≤◌, ◌==◌, ◌&&◌, false, nat_eq, replicate, slice_index, slice_get, slice_set, slice_range, Some};
 ghost use Rattle.std.specs.Cmp.Lexicographic.{pointwise};
 ghost use Rattle.std.specs.List.{list_all};
 ghost use Rattle.gpr_flags.specs.Numbers.{has_bit};
 ghost use Rattle.machine_state.specs.State.{initial_extended, IsExtended};
 ghost use Rattle.num_lanes.specs.Components.{changed, in_use_of};
-ghost use Rattle.num_lanes.specs.Setters.{with_zmm, with_k, with_mxcsr, with_x87, restored_of, with_record};
+ghost use Rattle.num_lanes.specs.Setters.{with_zmm, with_k, with_mxcsr, with_x87, restored_of, with_record, with_cleared};
 
-use crate::values::{are_initial, bit_unless, initial_fields, initial_registers};
+use crate::values::{are_initial, bit_unless, cleared, initial_fields, initial_registers};
 use bitflags::Flags;
 use num_lanes::{Components, Record, Vec64};
 use std::marker::Model;
@@ -91,6 +91,18 @@ impl VecFile {
         let changed = self.changed_by_zmm(n, v);
         self.restored.kept.remove(changed);
         self.zmm[n as usize] = *v;
+    }
+
+    #[tactic(auto, unfolding(num_lanes::specs::Setters::with_cleared))]
+    /// Puts 0 into the bytes from `from` on of ZMM0 to ZMM15: VZEROUPPER from 16 on, VZEROALL from 0 on (SDM volume 2).
+    pub fn clear(&mut self, from: usize)
+        requires { from ≤ 64 }
+        ensures { self.new ≡ with_cleared from 16 self.old }
+    {
+        for n in 0..16u8 {
+            let v = cleared(self.zmm(n), from);
+            self.set_zmm(n, &v);
+        }
     }
 
     /// The opmask `n`.

@@ -165,3 +165,24 @@ fn x87_is_in_use_and_never_kept(rt: HostRuntime) {
     assert_eq!(rt; file.in_use(), Components::X87);
     assert_eq!(rt; file.record().kept, KEPT);
 }
+
+/// Which components are in use after the bytes from a place on were cleared in files whose registers 0 to 16 have no zero, and
+/// which are then still kept.
+fn cleared_from(from: usize) -> (u8, u8) {
+    let mut file = VecFile::new();
+    for n in 0..17 {
+        file.set_zmm(n, &[7; 64]);
+    }
+    keep_all(&mut file);
+    if from <= 64 {
+        file.clear(from);
+    }
+    (file.in_use().0, file.record().kept.0)
+}
+
+#[test]
+fn cleared_bytes_are_not_in_use_and_not_kept(rt: HostRuntime) {
+    assert_eq!(rt; cleared_from(16), (0x82, 0xA2));
+    assert_eq!(rt; cleared_from(0), (0x80, 0xA0));
+    assert_eq!(rt; cleared_from(64), (0xC6, 0xE6));
+}

@@ -3,6 +3,7 @@ ghost use Rattle.std.specs.Prelude.{◌≡◌, ◌≤◌, nat_eq, replicate, sli
 ghost use Rattle.std.specs.Cmp.Lexicographic.{pointwise};
 ghost use Rattle.std.specs.List.{list_all};
 ghost use Rattle.machine_state.specs.State.{initial_x87};
+ghost use Rattle.num_lanes.specs.Setters.{cleared_from};
 
 use num_lanes::{Components, Vec64};
 
@@ -42,4 +43,14 @@ pub(crate) fn bit_unless(same: bool, component: Components) -> u8
     ensures most { result ≤ component.0 }
 {
     if same { 0 } else { component.0 }
+}
+
+/// A register with 0 in the bytes from `from` on.
+pub(crate) fn cleared(v: &Vec64, from: usize) -> Vec64
+    requires { from ≤ 64 }
+    ensures { result ≡ cleared_from from v.now }
+{
+    let mut out = [0; 64];
+    out[..from].copy_from_slice(&v[..from]);
+    out
 }

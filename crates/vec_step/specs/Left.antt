@@ -1,5 +1,5 @@
 -- What a vector instruction leaves, where its accesses can be made.
-use Rattle.std.specs.Prelude.{ℕ, ◌+◌, ◌*◌, ◌/◌, ◌%◌, ◌==◌, Bool, true, false, if◌then◌else◌, List, [], ◌++◌, slice_index, slice_index_or, slice_set, replicate, ◌-◌}
+use Rattle.std.specs.Prelude.{ℕ, ◌+◌, ◌*◌, ◌/◌, ◌%◌, ◌==◌, Bool, true, false, if◌then◌else◌, List, [], ◌++◌, slice_index, slice_set, replicate, ◌-◌}
 use Rattle.std.specs.Simd.Lanes.{digits_l}
 use Rattle.gpr_flags.specs.declared.kinds.Flags.{Flags}
 use Rattle.gpr_flags.specs.Numbers.{has_bit}
@@ -8,7 +8,7 @@ use Rattle.machine_state.specs.State.{Extended}
 use Rattle.row_table.specs.declared.operations.Op.{Op}
 use Rattle.row_table.specs.declared.operations.Op.TheVariants.{Core, Gpr, Bit, String, Lane, Cross, Width, Mac, Mask as OnMasks, Vector, Gather, Xsave}
 use Rattle.num_lanes.specs.Lane.{lane_of}
-use Rattle.num_lanes.specs.Setters.{with_zmm, with_k}
+use Rattle.num_lanes.specs.Setters.{zmm_in, with_zmm, with_k}
 use Rattle.masked_memory.specs.Lanes.{loaded, stored}
 use Rattle.vec_units.specs.Results.{vector_result, bits_of}
 use Rattle.vec_step.specs.declared.kinds.Span.{Span}
@@ -22,9 +22,6 @@ use Rattle.vec_step.specs.declared.kinds.VectorPlan.{VectorPlan}
 -- bytes from the lowest up, and zeros
 abbrev pub padded : List ℕ → (count : ℕ) → List ℕ
 padded bytes count = bytes ++ replicate (64 - count) 0
-
-abbrev pub zmm_in : Extended → (n : ℕ) → List ℕ
-zmm_in e n = slice_index_or e.zmm n []
 
 -- the lanes of memory that are accessed, and 0 in all others
 abbrev pub span_value : Span → (ℕ → ℕ) → List ℕ
