@@ -69,6 +69,7 @@ pub(super) fn vector_name(op: VectorOp) -> &'static str {
     }
 }
 
+/// Instructions, and what is seen in them.
 #[rattlefmt::skip]
 static VECTOR_BYTES: [(&'static [u8], VexTold); 129] = [
     // paddb %xmm2,%xmm1
@@ -332,6 +333,7 @@ pub(super) fn vector_bytes() -> &'static [(&'static [u8], VexTold)] {
     &VECTOR_BYTES
 }
 
+/// What no row takes.
 #[rattlefmt::skip]
 static VECTOR_REFUSED: [&'static [u8]; 26] = [
     // L of 256 bits where a row has 128 alone: VMOVD, VMOVQ, VMOVLPS, VMOVHLPS, and 66 0F D6.
