@@ -5,6 +5,7 @@ use crate::sizes::Size;
 use crate::strings::StringPlan;
 use gpr_flags::Flags;
 use row_table::Op;
+use vec_step::VectorPlan;
 
 /// Where an operation finds an operand: in its row's list, or at a place of its own.
 #[derive(Clone, Copy)]
@@ -161,6 +162,8 @@ pub enum Plan {
     OnStrings(StringPlan),
     /// Two registers are compared with memory and exchanged.
     OnPair(PairPlan),
+    /// Lanes of vectors are taken, and others put to their places.
+    OnVectors(VectorPlan),
 }
 
 /// What comes of an instruction whose accesses can be made.

@@ -13,6 +13,8 @@ pub enum Way {
     Strings(StringOp),
     /// Two registers are compared with memory and exchanged.
     Pair,
+    /// Lanes of vectors are taken, and others put to their places.
+    Vectors,
 }
 
 impl Way {
@@ -80,14 +82,13 @@ impl Way {
         match op {
             Op::Core(op) => Way::of_core(op),
             Op::String(op) => Way::Strings(op),
+            Op::Lane(_) | Op::Vector(_) => Way::Vectors,
             Op::Gpr(_)
             | Op::Bit(_)
-            | Op::Lane(_)
             | Op::Cross(_)
             | Op::Width(_)
             | Op::Mac(_)
             | Op::Mask(_)
-            | Op::Vector(_)
             | Op::Gather(_)
             | Op::Xsave(_) => Way::Numbers,
         }
