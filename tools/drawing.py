@@ -151,7 +151,7 @@ def prefixes_before_vex(pick):
 def vex(pick, row):
     """VEX as a row has it, mostly of two bytes where these suffice; now and then with a length that the row doesn't take, or with a
     register in a vvvv that isn't used, which are undefined."""
-    length = pick.choice([n for n in range(2) if row.lengths >> n & 1]) ^ (pick.random() < .02)
+    length = pick.choice([n for n in range(2) if listing.taken_lengths(row) >> n & 1]) ^ (pick.random() < .02)
     has_vvvv = listing.names_vvvv(row) or pick.random() < .03
     inverted = ~(pick.getrandbits(4) if has_vvvv else 0) & 15
     w = pick.getrandbits(1) if row.w == "-" else int(row.w)

@@ -13,7 +13,7 @@ TO_MEMORY = "Eb Ev EbGb EvGv EbIb EvIb EvIz M".split()
 
 # The operands that need memory in ModRM.r/m, or a register.
 MEMORY_ONLY = "M GvM MvGv VxMx MxVx VxHxMx MxHxVx VxVm VxVmHx VmVx MxKx".split()
-REGISTER_ONLY = "R HxUxIb UxIb VxHxUx UxHxVx VxRv GvUx GvUxIb KxUx VxKx KxKx KxKxKx KxKxIb KxRv GvKx".split()
+REGISTER_ONLY = "R HxUxIb UxIb VxHxUx UxHxVx VxUx UxVx VxRv GvUx GvUxIb KxUx VxKx KxKx KxKxKx KxKxIb KxRv GvKx".split()
 
 Row = collections.namedtuple("Row", "kind map mark opcode digit w lengths operands width part op level")
 
@@ -96,6 +96,11 @@ def takes(row, modrm):
     return row.operands not in (REGISTER_ONLY if modrm < 0xC0 else MEMORY_ONLY)
 
 
+def taken_lengths(row):
+    """The vector lengths that a row takes, added up: those of 128 and of 256 bits where it ignores L."""
+    return 3 if row.lengths == 8 else row.lengths
+
+
 def fitting(table, head):
     """The rows of the class, map and opcode that are there."""
     return [row for row in table if (row.kind, row.map, row.opcode) == (head.kind, head.map, head.opcode)]
@@ -104,6 +109,6 @@ def fitting(table, head):
 def matched(table, head):
     """The row that these fields match, or None: the marked one before the other."""
     fit = [row for row in fitting(table, head) if row.digit in ("-", str(head.modrm // 8 % 8))
-           and row.w in ("-", str(int(head.w))) and row.lengths & head.length and takes(row, head.modrm)]
+           and row.w in ("-", str(int(head.w))) and taken_lengths(row) & head.length and takes(row, head.modrm)]
     marked = [row for row in fit if row.mark == head.mark]
     return next(iter(marked or [row for row in fit if row.mark == "-"]), None)

@@ -230,13 +230,13 @@ fn cut_and_unknown_bytes_of_vex_are_told_apart(rt: HostRuntime) {
     for bytes in cut {
         assert!(rt; matches!(scan(bytes), Scan::Short), "at {bytes:?}");
     }
-    // Maps 0 and 4 have no row, and in the others F2, F1 and 77 have none.
+    // Maps 0 and 4 have no row, and in the others 58 and F1 have none.
     let unknown: [&[u8]; 6] = [
         &[0xc4, 0xe0],
         &[0xc4, 0xe4],
-        &[0xc4, 0xe1, 0x60, 0xf2],
+        &[0xc4, 0xe1, 0x60, 0x58],
         &[0xc4, 0xe3, 0x60, 0xf1],
-        &[0xc5, 0xf8, 0x77],
+        &[0xc5, 0xf8, 0x58],
         &[0x62],
     ];
     for bytes in unknown {

@@ -9,6 +9,8 @@ use Rattle.row_table.specs.declared.operations.StringOp.TheVariants.{Movs, Cmps,
 use Rattle.row_table.specs.declared.operations.GprOp.TheVariants.{Add, Or, Adc, Sbb, And, Sub, Xor, Cmp, Test, Imul, Inc, Dec, Adcx, Adox}
 use Rattle.row_table.specs.declared.operations.BitOp.TheVariants.{Shld, Shrd, Bt, Bts, Btr, Btc, Popcnt, Bsf, Tzcnt, Bsr, Lzcnt}
 use Rattle.row_table.specs.Lines.{sized, byte, always, scalar, digit, without_w, with_w, np, p66, pf3, aligned, level_3, opcodes, registers, conditions, by_w, arithmetic, group_1, group_2, group_3, group_8, in_map}
+use Rattle.row_table.specs.VectorLines.{Sse}
+use Rattle.row_table.specs.Simd.{simd_10, simd_28, simd_50, simd_7e, simd_d1, simd_0f38}
 
 -- the one-byte map (table A-2)
 unfoldable pub one_byte : List Row
@@ -97,12 +99,22 @@ unfoldable pub two_byte : List Row
 two_byte =
     -- 05: SYSCALL
     always 0x05 Implied (Core Syscall) ∷ []
-    -- 0D, 18 to 1F: no-operations with ModRM, without an access
-    ++ sized 0x0D Ev (Core Nop) ∷ opcodes 8 (sized 0x18 Ev (Core Nop))
+    -- 0D: no-operation with ModRM, without an access
+    ++ sized 0x0D Ev (Core Nop) ∷ []
+    -- 10 to 17: vector instructions
+    ++ simd_10 Sse
+    -- 18 to 1F: no-operations with ModRM, without an access
+    ++ opcodes 8 (sized 0x18 Ev (Core Nop))
+    -- 28 to 2B: vector instructions
+    ++ simd_28 Sse
     -- 31: RDTSC
     ++ scalar 0x31 Implied 32 (Core Rdtsc) ∷ []
-    -- 40+cc, 80+cc, 90+cc: CMOVcc Gv,Ev; Jcc by 4 bytes; SETcc Eb
-    ++ conditions (sized 0x40 GvEv (Core Cmovcc)) ++ conditions (always 0x80 Jz (Core Jcc))
+    -- 40+cc: CMOVcc Gv,Ev
+    ++ conditions (sized 0x40 GvEv (Core Cmovcc))
+    -- 50 to 76, 7E, 7F: vector instructions
+    ++ simd_50 Sse ++ simd_7e Sse
+    -- 80+cc, 90+cc: Jcc by 4 bytes; SETcc Eb
+    ++ conditions (always 0x80 Jz (Core Jcc))
     ++ conditions (byte 0x90 Eb (Core Setcc))
     -- A3, A4, A5: BT Ev,Gv; SHLD Ev,Gv,Ib; Ev,Gv,CL
     ++ sized 0xA3 EvGv (Bit Bt) ∷ sized 0xA4 EvGvIb (Bit Shld) ∷ sized 0xA5 EvGvCl (Bit Shld) ∷ []
@@ -144,12 +156,16 @@ two_byte =
     ∷ aligned (with_w (digit 1 (scalar 0xC7 M 128 (Core Cmpxchg8b)))) ∷ []
     -- C8+r: BSWAP, 32 or 64
     ++ flat_map by_w (registers (scalar 0xC8 OpcodeReg 32 (Core Bswap)))
+    -- D1 to FE: vector instructions
+    ++ simd_d1 Sse
 
 -- the map of 0F38 (table A-4)
 unfoldable pub three_byte : List Row
 three_byte =
+    -- 08 to 3F: vector instructions
+    simd_0f38 Sse
     -- NP F0, 66 F0, memory only: MOVBE Gv,Mv
-    level_3 (np (sized 0xF0 GvM (Core Movbe))) ∷ level_3 (p66 (sized 0xF0 GvM (Core Movbe)))
+    ++ level_3 (np (sized 0xF0 GvM (Core Movbe))) ∷ level_3 (p66 (sized 0xF0 GvM (Core Movbe)))
     -- NP F1, 66 F1, memory only: MOVBE Mv,Gv
     ∷ level_3 (np (sized 0xF1 MvGv (Core Movbe))) ∷ level_3 (p66 (sized 0xF1 MvGv (Core Movbe))) ∷ []
     -- 66 F6: ADCX Gv,Ev, 32 or 64

@@ -4,7 +4,7 @@ use Rattle.std.specs.Prelude.{ℕ, zero, suc, ◌+◌, Option, Some, None, List,
 use Rattle.std.specs.List.{list_any}
 use Rattle.std.specs.Option.{is_some}
 use Rattle.row_table.specs.declared.kinds.Operands.{Operands}
-use Rattle.row_table.specs.declared.kinds.Operands.TheVariants.{Implied, OpcodeReg, RaxOpcodeReg, OpcodeRegIb, OpcodeRegIv, Ib, Iw, Iz, Jb, Jz, AlIb, RaxIz, AlOb, RaxOv, ObAl, OvRax, Eb, Ev, EbGb, EvGv, GbEb, GvEv, GvEb, GvEw, GvEd, EbIb, EvIb, EvIz, EbOne, EvOne, EbCl, EvCl, GvEvIb, GvEvIz, EvGvIb, EvGvCl, GvM, MvGv, M as MemoryAlone, R as RegisterAlone, ByteD0, GyByEy, GyEyBy, ByEy, GyEyIb, VxHxWx, VxHxWxIb, VxHxWdq, VxHxWxLx, VxWx, VxWxIb, VxWxXmm0, WxVx, WxVxIb, HxWxIb, HxUxIb, UxIb, VxMx, MxVx, VxHxMx, MxHxVx, VxHxUx, UxHxVx, VxEv, EvVx, VxHxEvIb, EvVxIb, VxRv, GvUx, GvUxIb, VxVm, VxVmHx, VmVx, KxHxWx, KxHxWxIb, KxUx, VxKx, KxKx, KxKxKx, KxKxIb, KxKm, MxKx, KxRv, GvKx}
+use Rattle.row_table.specs.declared.kinds.Operands.TheVariants.{Implied, OpcodeReg, RaxOpcodeReg, OpcodeRegIb, OpcodeRegIv, Ib, Iw, Iz, Jb, Jz, AlIb, RaxIz, AlOb, RaxOv, ObAl, OvRax, Eb, Ev, EbGb, EvGv, GbEb, GvEv, GvEb, GvEw, GvEd, EbIb, EvIb, EvIz, EbOne, EvOne, EbCl, EvCl, GvEvIb, GvEvIz, EvGvIb, EvGvCl, GvM, MvGv, M as MemoryAlone, R as RegisterAlone, ByteD0, GyByEy, GyEyBy, ByEy, GyEyIb, VxHxWx, VxHxWxIb, VxHxWdq, VxHxWxLx, VxWx, VxWdq, VxWxIb, VxWxXmm0, WxVx, WxVxIb, HxWxIb, HxUxIb, UxIb, VxMx, MxVx, VxHxMx, MxHxVx, VxHxUx, UxHxVx, VxUx, UxVx, VxEv, EvVx, VxHxEvIb, EvVxIb, VxRv, GvUx, GvUxIb, VxVm, VxVmHx, VmVx, KxHxWx, KxHxWxIb, KxUx, VxKx, KxKx, KxKxKx, KxKxIb, KxKm, MxKx, KxRv, GvKx}
 use Rattle.row_table.specs.declared.kinds.Spot.{Spot}
 use Rattle.row_table.specs.declared.kinds.Spot.TheVariants.{Absent, Reg, Rm, Vvvv, OpcodeReg as InOpcode, Rax, Cl, Memory as InMemory, VectorMemory, Offset, Immediate, Relative, One as NumberOne, VectorReg, VectorRm, VectorVvvv, VectorImmediate, Xmm0, OpmaskReg, OpmaskRm, OpmaskVvvv}
 use Rattle.row_table.specs.declared.kinds.Extent.{Extent}
@@ -126,6 +126,7 @@ letters VxHxWxIb = V x ∷ H x ∷ W x ∷ I b ∷ []
 letters VxHxWdq = V x ∷ H x ∷ W dq ∷ []
 letters VxHxWxLx = V x ∷ H x ∷ W x ∷ L x ∷ []
 letters VxWx = V x ∷ W x ∷ []
+letters VxWdq = V x ∷ W dq ∷ []
 letters VxWxIb = V x ∷ W x ∷ I b ∷ []
 letters VxWxXmm0 = V x ∷ W x ∷ XMM0 ∷ []
 letters WxVx = W x ∷ V x ∷ []
@@ -139,6 +140,8 @@ letters VxHxMx = V x ∷ H x ∷ M x ∷ []
 letters MxHxVx = M x ∷ H x ∷ V x ∷ []
 letters VxHxUx = V x ∷ H x ∷ U x ∷ []
 letters UxHxVx = U x ∷ H x ∷ V x ∷ []
+letters VxUx = V x ∷ U x ∷ []
+letters UxVx = U x ∷ V x ∷ []
 letters VxEv = V x ∷ E y ∷ []
 letters EvVx = E y ∷ V x ∷ []
 letters VxHxEvIb = V x ∷ H x ∷ E y ∷ I b ∷ []

@@ -2,6 +2,8 @@ pub mod Letters
 pub mod Order
 pub mod Shapes
 pub mod Lines
+pub mod VectorLines
+pub mod Simd
 pub mod Legacy
 pub mod Vex
 pub mod Rows

@@ -1,5 +1,5 @@
 -- When a row is the row of an instruction's fields.
-use Rattle.std.specs.Prelude.{◌≡◌, ℕ, zero, suc, ◌/◌, ◌%◌, ◌<◌, ◌==◌, Bool, true, false, ◌&&◌, Option, Some, None, List, slice_get, ◌⊎◌, find, if◌then◌else◌}
+use Rattle.std.specs.Prelude.{◌≡◌, ℕ, zero, suc, ◌/◌, ◌%◌, ◌<◌, ◌==◌, Bool, true, false, ◌&&◌, ◌||◌, Option, Some, None, List, slice_get, ◌⊎◌, find, if◌then◌else◌}
 use Rattle.std.specs.Bool.{beq}
 use Rattle.std.specs.List.{list_any, position}
 use Rattle.std.specs.Option.{option_map, option_or}
@@ -26,10 +26,11 @@ abbrev pub w_fits : Option Bool → Bool → Bool
 w_fits None bit = true
 w_fits (Some w) bit = beq w bit
 
--- the row's lengths hold the one that is there: 1 for 128 bits, 2 for 256 and 4 for 512, added up
+-- the row's lengths hold the one that is there: 1 for 128 bits, 2 for 256 and 4 for 512, added up; with 8 the vectors have
+-- 128 bits whatever bit L is
 abbrev pub length_fits : ℕ → ℕ → Bool
-length_fits lengths zero = lengths % 2 == 1
-length_fits lengths (suc zero) = (lengths / 2) % 2 == 1
+length_fits lengths zero = (lengths % 2 == 1) || (lengths == 8)
+length_fits lengths (suc zero) = ((lengths / 2) % 2 == 1) || (lengths == 8)
 length_fits lengths (suc (suc zero)) = (lengths / 4) % 2 == 1
 length_fits lengths (suc (suc (suc l))) = false
 

@@ -1,25 +1,42 @@
 -- The instructions of VEX, in the order of the SDM's opcode maps (Intel SDM volume 2, appendix A.3), by map and opcode: a comment
--- gives what a line of the map says, and the term below it the rows. In all of them L is 0.
+-- gives what a line of the map says, and the term below it the rows. Where it names no vectors, L is 0.
 use Rattle.std.specs.Prelude.{List, [], ◌∷◌, ◌++◌}
-use Rattle.row_table.specs.declared.kinds.Operands.TheVariants.{M, GyByEy, GyEyBy, ByEy, GyEyIb}
+use Rattle.row_table.specs.declared.kinds.Operands.TheVariants.{Implied, M, GyByEy, GyEyBy, ByEy, GyEyIb, VxHxWx}
 use Rattle.row_table.specs.declared.kinds.Row.{Row}
-use Rattle.row_table.specs.declared.operations.Op.TheVariants.{Core, Gpr, Bit}
-use Rattle.row_table.specs.declared.operations.CoreOp.TheVariants.{Ldmxcsr, Stmxcsr}
+use Rattle.row_table.specs.declared.operations.Op.TheVariants.{Core, Gpr, Bit, Lane}
+use Rattle.row_table.specs.declared.operations.CoreOp.TheVariants.{Ldmxcsr, Stmxcsr, Vzeroupper, Vzeroall}
 use Rattle.row_table.specs.declared.operations.GprOp.TheVariants.{Mulx}
 use Rattle.row_table.specs.declared.operations.BitOp.TheVariants.{Andn, Blsr, Blsmsk, Blsi, Bzhi, Pext, Pdep, Bextr, Shlx, Sarx, Shrx, Rorx}
-use Rattle.row_table.specs.Lines.{vex, digit, np, p66, pf3, pf2, by_w, in_map}
+use Rattle.row_table.specs.declared.operations.LaneOp.TheVariants.{Vpsrlv, Vpsrav, Vpsllv}
+use Rattle.row_table.specs.Lines.{vex, digit, without_w, np, p66, pf3, pf2, by_w, in_map}
+use Rattle.row_table.specs.VectorLines.{Avx, vector, of_128, of_256}
+use Rattle.row_table.specs.Simd.{simd_10, simd_28, simd_50, simd_7e, simd_d1, simd_0f38}
 
 -- the map of 0F (table A-3)
 unfoldable pub vex_0f : List Row
 vex_0f =
+    -- 10 to 76: those that are vector instructions of the legacy class, too
+    simd_10 Avx ++ simd_28 Avx ++ simd_50 Avx
+    -- NP 77: VZEROUPPER of 128 bits, VZEROALL of 256
+    ++ np (of_128 (vector Avx 0x77 Implied 64 (Core Vzeroupper))) ∷ np (of_256 (vector Avx 0x77 Implied 64 (Core Vzeroall))) ∷ []
+    -- 7E, 7F: those that are vector instructions of the legacy class, too
+    ++ simd_7e Avx
     -- NP AE /2, /3, memory only: VLDMXCSR and VSTMXCSR of 32 bits
-    np (digit 2 (vex 0xAE M (Core Ldmxcsr))) ∷ np (digit 3 (vex 0xAE M (Core Stmxcsr))) ∷ []
+    ++ np (digit 2 (vex 0xAE M (Core Ldmxcsr))) ∷ np (digit 3 (vex 0xAE M (Core Stmxcsr))) ∷ []
+    -- D1 to FE: those that are vector instructions of the legacy class, too
+    ++ simd_d1 Avx
 
 -- the map of 0F38 (table A-4), where y is 32 bits, and 64 with W
 unfoldable pub vex_0f38 : List Row
 vex_0f38 =
+    -- 08 to 3F: those that are vector instructions of the legacy class, too
+    simd_0f38 Avx
+    -- 66 45, 46, 47: VPSRLVD and with W VPSRLVQ; VPSRAVD without W; VPSLLVD and with W VPSLLVQ Vx,Hx,Wx
+    ++ by_w (p66 (vector Avx 0x45 VxHxWx 32 (Lane Vpsrlv)))
+    ++ without_w (p66 (vector Avx 0x46 VxHxWx 32 (Lane Vpsrav))) ∷ []
+    ++ by_w (p66 (vector Avx 0x47 VxHxWx 32 (Lane Vpsllv)))
     -- NP F2: ANDN Gy,By,Ey
-    by_w (np (vex 0xF2 GyByEy (Bit Andn)))
+    ++ by_w (np (vex 0xF2 GyByEy (Bit Andn)))
     -- NP F3 /1, /2, /3: group 17, BLSR, BLSMSK, BLSI By,Ey
     ++ by_w (np (digit 1 (vex 0xF3 ByEy (Bit Blsr)))) ++ by_w (np (digit 2 (vex 0xF3 ByEy (Bit Blsmsk))))
     ++ by_w (np (digit 3 (vex 0xF3 ByEy (Bit Blsi))))

@@ -92,6 +92,7 @@ pub enum Operands {
     VxHxWdq,
     VxHxWxLx,
     VxWx,
+    VxWdq,
     VxWxIb,
     /// The third operand is XMM0.
     VxWxXmm0,
@@ -106,6 +107,8 @@ pub enum Operands {
     MxHxVx,
     VxHxUx,
     UxHxVx,
+    VxUx,
+    UxVx,
     VxEv,
     EvVx,
     VxHxEvIb,
@@ -300,7 +303,7 @@ pub struct Row {
     /// REX.W, VEX.W or EVEX.W, where the row needs one of its values.
     pub w: Option<bool>,
     /// The vector lengths that the row takes: 1 for 128 bits, 2 for 256, 4 for 512, added up. Legacy rows
-    /// have 1, since their length field is 0.
+    /// have 1, since their length field is 0. With 8 the bit L is ignored, and vectors have 128 bits.
     pub lengths: u8,
     pub operands: Operands,
     /// The width of lanes and masks, or of a general operand, in bits; 0 where it is the operand size,

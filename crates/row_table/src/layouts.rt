@@ -22,7 +22,7 @@ macro_rules! layouts {
 /// What each list of operands says, in the order of `Operands`: its four places, whether ModRM follows the
 /// opcode, the size of the immediate as a code, and which form of ModRM is taken.
 #[rattlefmt::skip]
-static LAYOUTS: [Layout; 84] = layouts![
+static LAYOUTS: [Layout; 87] = layouts![
     (Implied: Absent Own, Absent Own, Absent Own, Absent Own; false 0 Form::Either),
     (OpcodeReg: OpcodeReg Sized, Absent Own, Absent Own, Absent Own; false 0 Form::Either),
     (RaxOpcodeReg: Rax Sized, OpcodeReg Sized, Absent Own, Absent Own; false 0 Form::Either),
@@ -73,6 +73,7 @@ static LAYOUTS: [Layout; 84] = layouts![
     (VxHxWdq: VectorReg Vector, VectorVvvv Vector, VectorRm DoubleQuad, Absent Own; true 0 Form::Either),
     (VxHxWxLx: VectorReg Vector, VectorVvvv Vector, VectorRm Vector, VectorImmediate Vector; true 1 Form::Either),
     (VxWx: VectorReg Vector, VectorRm Vector, Absent Own, Absent Own; true 0 Form::Either),
+    (VxWdq: VectorReg Vector, VectorRm DoubleQuad, Absent Own, Absent Own; true 0 Form::Either),
     (VxWxIb: VectorReg Vector, VectorRm Vector, Immediate Byte, Absent Own; true 1 Form::Either),
     (VxWxXmm0: VectorReg Vector, VectorRm Vector, Xmm0 Vector, Absent Own; true 0 Form::Either),
     (WxVx: VectorRm Vector, VectorReg Vector, Absent Own, Absent Own; true 0 Form::Either),
@@ -86,6 +87,8 @@ static LAYOUTS: [Layout; 84] = layouts![
     (MxHxVx: Memory Vector, VectorVvvv Vector, VectorReg Vector, Absent Own; true 0 Form::Memory),
     (VxHxUx: VectorReg Vector, VectorVvvv Vector, VectorRm Vector, Absent Own; true 0 Form::Register),
     (UxHxVx: VectorRm Vector, VectorVvvv Vector, VectorReg Vector, Absent Own; true 0 Form::Register),
+    (VxUx: VectorReg Vector, VectorRm Vector, Absent Own, Absent Own; true 0 Form::Register),
+    (UxVx: VectorRm Vector, VectorReg Vector, Absent Own, Absent Own; true 0 Form::Register),
     (VxEv: VectorReg Vector, Rm Scalar, Absent Own, Absent Own; true 0 Form::Either),
     (EvVx: Rm Scalar, VectorReg Vector, Absent Own, Absent Own; true 0 Form::Either),
     (VxHxEvIb: VectorReg Vector, VectorVvvv Vector, Rm Scalar, Immediate Byte; true 1 Form::Either),

@@ -61,8 +61,8 @@ fn does_length_fit(lengths: u8, l: u8) -> bool
     ensures { result ≡ length_fits lengths l }
 {
     match l {
-        0 => lengths % 2 == 1,
-        1 => lengths / 2 % 2 == 1,
+        0 => lengths % 2 == 1 || lengths == 8,
+        1 => lengths / 2 % 2 == 1 || lengths == 8,
         2 => lengths / 4 % 2 == 1,
         _ => false,
     }

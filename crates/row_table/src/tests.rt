@@ -43,19 +43,21 @@ fn found(rep: u8, p66: bool, w: bool, map: u8, opcode: u8, modrm: Option<u8>) ->
     Some(row(find(&fields)?))
 }
 
-/// The operation and the width of the row of a VEX instruction with pp, W, L, map, opcode and ModRM byte.
-fn vex_found(pp: u8, w: bool, l: u8, map: u8, opcode: u8, modrm: u8) -> (&'static str, u8) {
+/// The row of a VEX instruction with pp, W, L, map, opcode and ModRM byte.
+fn vex_row(pp: u8, w: bool, l: u8, map: u8, opcode: u8, modrm: Option<u8>) -> Option<Row> {
     let fields = Fields {
         pp,
         l,
-        ..bare(Class::Vex, w, map, opcode, Some(modrm))
+        ..bare(Class::Vex, w, map, opcode, modrm)
     };
-    match find(&fields) {
+    Some(row(find(&fields)?))
+}
+
+/// The operation and the width of that row.
+fn vex_found(pp: u8, w: bool, l: u8, map: u8, opcode: u8, modrm: u8) -> (&'static str, u8) {
+    match vex_row(pp, w, l, map, opcode, Some(modrm)) {
         None => ("none", 0),
-        Some(index) => {
-            let row = row(index);
-            (name(row.op), row.width)
-        }
+        Some(row) => (name(row.op), row.width),
     }
 }
 
@@ -190,6 +192,66 @@ fn known_instructions_of_vex_have_their_rows(rt: HostRuntime) {
     }
 }
 
+/// What a vector row says of its memory operand: its alignment, its tuple, and whether it is read whole.
+type Memory = (&'static str, &'static str, bool);
+
+fn memory_of(row: Row) -> Memory {
+    let align = match row.align {
+        Align::Free => "free",
+        Align::Sixteen => "sixteen",
+        Align::Size => "size",
+    };
+    let tuple = match row.tuple {
+        Tuple::NoTuple => "vector",
+        Tuple::Mem128 => "16 bytes",
+        Tuple::T1S => "element",
+        _ => "another",
+    };
+    (align, tuple, row.whole)
+}
+
+/// The last F2 or F3 and 66 of a legacy instruction, pp and L of the same in VEX, then map and opcode, and what the two rows say
+/// of their operand in memory.
+#[rattlefmt::skip]
+static VECTOR_MEMORY: [(u8, bool, u8, u8, u8, u8, Memory, Memory); 14] = [
+    // PADDB, PAND, PABSB and PTEST.
+    (0, true, 1, 1, 1, 0xfc, ("sixteen", "vector", false), ("free", "vector", false)),
+    (0, true, 1, 0, 1, 0xdb, ("sixteen", "vector", false), ("free", "vector", false)),
+    (0, true, 1, 1, 2, 0x1c, ("sixteen", "vector", false), ("free", "vector", false)),
+    (0, true, 1, 1, 2, 0x17, ("sixteen", "vector", false), ("free", "vector", false)),
+    // PSRLW by a count of 128 bits, at each length.
+    (0, true, 1, 1, 1, 0xd1, ("sixteen", "16 bytes", true), ("free", "16 bytes", true)),
+    // MOVDQA, MOVNTDQ and MOVAPS, which are aligned in both, and MOVDQU and MOVUPD, which are in none.
+    (0, true, 1, 1, 1, 0x6f, ("size", "vector", false), ("size", "vector", false)),
+    (0, true, 1, 1, 1, 0xe7, ("size", "vector", false), ("size", "vector", false)),
+    (0, false, 0, 0, 1, 0x29, ("size", "vector", false), ("size", "vector", false)),
+    (0xf3, false, 2, 1, 1, 0x7f, ("free", "vector", false), ("free", "vector", false)),
+    (0, true, 1, 1, 1, 0x10, ("free", "vector", false), ("free", "vector", false)),
+    // MOVSS and MOVHPS, and MOVDDUP, which has one element at 128 bits and a vector at 256.
+    (0xf3, false, 2, 1, 1, 0x10, ("free", "element", false), ("free", "element", false)),
+    (0, false, 0, 0, 1, 0x16, ("free", "element", false), ("free", "element", false)),
+    (0xf2, false, 3, 0, 1, 0x12, ("free", "element", false), ("free", "element", false)),
+    (0xf2, false, 3, 1, 1, 0x12, ("free", "element", false), ("free", "vector", false)),
+];
+
+fn vector_memory() -> &'static [(u8, bool, u8, u8, u8, u8, Memory, Memory)] {
+    &VECTOR_MEMORY
+}
+
+#[test]
+fn vector_rows_say_what_stands_in_memory(rt: HostRuntime) {
+    for (rep, p66, pp, l, map, opcode, legacy, vex) in vector_memory() {
+        let found = found(*rep, *p66, false, *map, *opcode, Some(0x08)).map(memory_of);
+        assert_eq!(rt;
+            found,
+            Some(*legacy),
+            "at {opcode} of map {map} without VEX"
+        );
+        let found = vex_row(*pp, false, *l, *map, *opcode, Some(0x08)).map(memory_of);
+        assert_eq!(rt; found, Some(*vex), "at {opcode} of map {map} with VEX");
+    }
+}
+
 #[test]
 fn opcodes_have_their_shapes(rt: HostRuntime) {
     for (map, opcode, want) in [
@@ -211,12 +273,20 @@ fn opcodes_have_their_shapes(rt: HostRuntime) {
         (0, 0xd1, Some((true, 0))),
         (1, 0xa4, Some((true, 1))),
         (1, 0xa5, Some((true, 0))),
+        // PSRLW by Ib, PADDB and PSIGNB.
+        (1, 0x71, Some((true, 1))),
+        (1, 0xfc, Some((true, 0))),
+        (2, 0x08, Some((true, 0))),
+        (1, 0x77, None),
     ] {
         let found = shape(Class::Legacy, map, opcode).map(|s| (s.modrm, s.imm));
         assert!(rt; found == want, "at {opcode} of map {map}");
     }
     let vex = shape(Class::Vex, 3, 0xf0).map(|s| (s.modrm, s.imm));
     assert!(rt; vex == Some((true, 1)));
+    // VZEROUPPER and VZEROALL.
+    let zero = shape(Class::Vex, 1, 0x77).map(|s| (s.modrm, s.imm));
+    assert!(rt; zero == Some((false, 0)));
     assert!(rt;
         is_used(Class::Legacy, 2) && !is_used(Class::Legacy, 3) && !is_used(Class::Evex, 0)
     );

@@ -3,14 +3,15 @@
 use Rattle.std.proofs.Common.{◌≡◌, ℕ, [], ◌∷◌, replicate, slice_get, Option, Some, None, refl}
 use Rattle.std.specs.Option.{option_map}
 use Rattle.row_table.specs.declared.operations.Op.{Op}
-use Rattle.row_table.specs.declared.operations.Op.TheVariants.{Core}
-use Rattle.row_table.specs.declared.operations.CoreOp.TheVariants.{Mov, Movbe, Nop, Ret}
+use Rattle.row_table.specs.declared.operations.Op.TheVariants.{Core, Lane}
+use Rattle.row_table.specs.declared.operations.CoreOp.TheVariants.{Mov, Movbe, Nop, Ret, Vzeroupper}
+use Rattle.row_table.specs.declared.operations.LaneOp.TheVariants.{Padd}
 use Rattle.row_table.specs.Legacy.{legacy, one_byte, two_byte, three_byte}
 use Rattle.row_table.specs.Vex.{vex_rows, vex_0f, vex_0f38, vex_0f3a}
 use Rattle.row_table.specs.Letters.{layout_of, letters}
 use Rattle.row_table.specs.Rows.{rows}
 use Rattle.row_table.specs.Matching.{fits, matched, shape_at, map_used}
-use Rattle.row_table.specs.Spelling.{spelled}
+use Rattle.row_table.specs.Spelling.{spelled, uses_vvvv}
 use Rattle.form_scan.specs.Front.{in_front}
 use Rattle.form_scan.specs.Payload.{of_rex, of_vex_two}
 use Rattle.form_scan.specs.Shaped.{within_limit, number_of, signed_of, fields_of}
@@ -79,10 +80,20 @@ addps : seen (0x0F ∷ 0x58 ∷ 0xC1 ∷ []) ≡ Bad
 unfolding seen scanned within_limit fields_at lead_at in_front after escape_at head_at shaped_head of_rex shape_at tail_at optional_at chunk_at fields_of number_of signed_of encoding_of spelled matched fits lock_fits operation_locks writes_rm layout_of letters rows legacy one_byte two_byte three_byte vex_rows vex_0f vex_0f38 vex_0f3a
 addps = refl
 
--- C5 F8 77: VZEROUPPER, of which the table has no row
-vzeroupper : seen (0xC5 ∷ 0xF8 ∷ 0x77 ∷ []) ≡ Bad
-unfolding seen scanned within_limit fields_at lead_at in_front after vex_two_at map_used opcode_at head_at shaped_head of_rex of_vex_two shape_at tail_at optional_at chunk_at fields_of number_of signed_of encoding_of spelled matched fits lock_fits operation_locks writes_rm layout_of letters rows legacy one_byte two_byte three_byte vex_rows vex_0f vex_0f38 vex_0f3a
+-- 66 0F FC C1: PADDB of XMM0 and XMM1
+paddb : operation_of (seen (0x66 ∷ 0x0F ∷ 0xFC ∷ 0xC1 ∷ [])) ≡ Some (Lane Padd)
+unfolding seen scanned within_limit fields_at lead_at in_front after escape_at head_at shaped_head of_rex shape_at tail_at optional_at chunk_at fields_of number_of signed_of encoding_of spelled matched fits lock_fits operation_locks writes_rm layout_of letters rows legacy one_byte two_byte three_byte vex_rows vex_0f vex_0f38 vex_0f3a
+paddb = refl
+
+-- C5 F8 77: VZEROUPPER, without ModRM
+vzeroupper : operation_of (seen (0xC5 ∷ 0xF8 ∷ 0x77 ∷ [])) ≡ Some (Core Vzeroupper)
+unfolding seen scanned within_limit fields_at lead_at in_front after vex_two_at map_used opcode_at head_at shaped_head of_rex of_vex_two shape_at tail_at optional_at chunk_at fields_of number_of signed_of encoding_of spelled uses_vvvv matched fits lock_fits operation_locks writes_rm layout_of letters rows legacy one_byte two_byte three_byte vex_rows vex_0f vex_0f38 vex_0f3a
 vzeroupper = refl
+
+-- C5 FC 58 C1: VADDPS, of which the table has no row
+vaddps : seen (0xC5 ∷ 0xFC ∷ 0x58 ∷ 0xC1 ∷ []) ≡ Bad
+unfolding seen scanned within_limit fields_at lead_at in_front after vex_two_at map_used opcode_at head_at shaped_head of_rex of_vex_two shape_at tail_at optional_at chunk_at fields_of number_of signed_of encoding_of spelled matched fits lock_fits operation_locks writes_rm layout_of letters rows legacy one_byte two_byte three_byte vex_rows vex_0f vex_0f38 vex_0f3a
+vaddps = refl
 
 -- F0 31 C0: XOR of a register, where LOCK may not stand
 locked : seen (0xF0 ∷ 0x31 ∷ 0xC0 ∷ []) ≡ Bad

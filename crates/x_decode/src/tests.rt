@@ -2,6 +2,8 @@
 use crate::*;
 use row_table::{BitOp, CoreOp, GprOp, Op, row};
 
+mod vectors;
+
 /// The name of the operation, of those that the test meets.
 fn name(op: Op) -> &'static str {
     match op {
@@ -37,6 +39,10 @@ fn name(op: Op) -> &'static str {
         Op::Bit(BitOp::Sarx) => "sarx",
         Op::Bit(BitOp::Shrx) => "shrx",
         Op::Bit(BitOp::Rorx) => "rorx",
+        Op::Core(CoreOp::Vzeroupper) => "vzeroupper",
+        Op::Core(CoreOp::Vzeroall) => "vzeroall",
+        Op::Lane(op) => vectors::lane_name(op),
+        Op::Vector(op) => vectors::vector_name(op),
         _ => "another",
     }
 }
@@ -290,7 +296,7 @@ fn instructions_of_vex_are_seen_as_the_assembler_writes_them(rt: HostRuntime) {
 }
 
 /// What is no instruction, or none yet, and what is only the beginning of one.
-static VEX_REFUSED: [(&'static [u8], Told); 32] = [
+static VEX_REFUSED: [(&'static [u8], Told); 31] = [
     // 66, F2, F3, LOCK or REX before VEX.
     (&[0x66, 0xc4, 0xe2, 0x60, 0xf2, 0xc1], BAD),
     (&[0xf2, 0xc4, 0xe2, 0x60, 0xf2, 0xc1], BAD),
@@ -310,13 +316,12 @@ static VEX_REFUSED: [(&'static [u8], Told); 32] = [
     (&[0xc4, 0xe0, 0x60, 0xf2, 0xc1], BAD),
     (&[0xc4, 0xe4, 0x60, 0xf2, 0xc1], BAD),
     (&[0xc4, 0xff, 0x60, 0xf2, 0xc1], BAD),
-    (&[0xc4, 0xe1, 0x60, 0xf2, 0xc1], BAD),
+    (&[0xc4, 0xe1, 0x60, 0x58, 0xc1], BAD),
     (&[0xc4, 0xe2, 0x61, 0xf2, 0xc1], BAD),
     (&[0xc4, 0xe2, 0x60, 0xf3, 0xc1], BAD),
     (&[0xc5, 0xf9, 0xae, 0x10], BAD),
-    // VLDMXCSR of a register, and VZEROUPPER, which has no row.
+    // VLDMXCSR of a register.
     (&[0xc5, 0xf8, 0xae, 0xd0], BAD),
-    (&[0xc5, 0xf8, 0x77], BAD),
     // LES and LDS of 32-bit code are VEX, whatever follows.
     (&[0xc4, 0x00], BAD),
     (&[0xc5, 0x00, 0x00], BAD),
@@ -380,5 +385,19 @@ fn operands_have_their_sizes(rt: HostRuntime) {
     ];
     for (bytes, want) in rows {
         assert_eq!(rt; sized(bytes), want, "at {bytes:?}");
+    }
+}
+
+#[test]
+fn vector_instructions_are_seen_as_the_assembler_writes_them(rt: HostRuntime) {
+    for (bytes, want) in vectors::vector_bytes() {
+        assert_eq!(rt; vex_told_of(bytes), Some(*want), "at {bytes:?}");
+    }
+}
+
+#[test]
+fn what_no_vector_row_takes_is_refused(rt: HostRuntime) {
+    for bytes in vectors::vector_refused() {
+        assert_eq!(rt; told_of(bytes), BAD, "at {bytes:?}");
     }
 }
