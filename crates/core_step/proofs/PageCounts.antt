@@ -19,7 +19,7 @@ use Rattle.core_step.specs.declared.kinds.Operand.TheVariants.{Absent, Register,
 use Rattle.core_step.specs.declared.kinds.Instruction.{Instruction}
 use Rattle.core_step.specs.declared.pair.PairPlan.{PairPlan}
 use Rattle.core_step.specs.declared.ways.Way.{Way}
-use Rattle.core_step.specs.declared.ways.Way.TheVariants.{Numbers, Strings, Pair, Vectors}
+use Rattle.core_step.specs.declared.ways.Way.TheVariants.{Numbers, Strings, Pair, Vectors, Clears}
 use Rattle.core_step.specs.Size.{bytes_in}
 use Rattle.core_step.specs.Access.{operand_access, kind_of, accesses_of}
 use Rattle.core_step.specs.Strings.{strings_of, is_over, source_of, destination_of, strings_access}
@@ -164,6 +164,10 @@ vectors-touch row d next s fits =
     (vector-near row d.fields (places_of row d next s) next s.extended.k (address_in row d next s) (address-below row d next s)
     (named-is (is_memory d.fields) (address_in row d next s)) fits)
 
+-- no access touches a page
+pub none-touch : TouchesAtMost 4 []
+none-touch = few-touch 2 [] (few-none 2)
+
 -- ---- the whole
 way-touch : (way : Way) (row : Row) (d : Decoded) (next : ℕ) (s : State) → PlanFits (plan_by way row d next s)
     → TouchesAtMost 4 (plan_accesses (plan_by way row d next s) s)
@@ -174,16 +178,13 @@ way-touch (Strings op) row d next s fits =
     few-touch 2 _ (strings-few (is_over i s.gprs) i.op (bytes_in i.size) (source_of i s.gprs) (destination_of i s.gprs) (bytes-short i.size))
 way-touch Pair row d next s fits = few-touch 2 _ (pair-few (pair_of row d next s))
 way-touch Vectors row d next s fits = vectors-touch row d next s fits
+way-touch (Clears clearing) row d next s fits = none-touch
 
 -- the accesses of an instruction touch at most four pages
 pub plan-touch : (row : Row) (d : Decoded) (len : ℕ) (s : State) → PlanFits (plan_of row d len s)
     → TouchesAtMost 4 (plan_accesses (plan_of row d len s) s)
 unfolding plan_of
 plan-touch row d len s fits = way-touch (way_of row.op) row d (next_of len s) s fits
-
--- and so does none
-pub none-touch : TouchesAtMost 4 []
-none-touch = few-touch 2 [] (few-none 2)
 
 -- and the fetch of one at most two
 pub fetch-touches : (rip : ℕ) → TouchesAtMost 2 (fetch_accesses rip)

@@ -14,7 +14,7 @@ use Rattle.row_table.specs.declared.kinds.Decoded.{Decoded}
 use Rattle.row_table.specs.declared.operations.Op.{Op}
 use Rattle.row_table.specs.declared.operations.Op.TheVariants.{Core, Gpr, Bit, String, Lane, Cross, Width, Mac, Mask, Vector, Gather, Xsave}
 use Rattle.row_table.specs.declared.operations.CoreOp.{CoreOp}
-use Rattle.row_table.specs.declared.operations.CoreOp.TheVariants.{Cmpxchg8b, Nop, Ldmxcsr}
+use Rattle.row_table.specs.declared.operations.CoreOp.TheVariants.{Cmpxchg8b, Nop, Ldmxcsr, Vzeroupper, Vzeroall}
 use Rattle.row_table.specs.declared.operations.GprOp.{GprOp}
 use Rattle.row_table.specs.declared.operations.GprOp.TheVariants.{Div, Idiv}
 use Rattle.row_table.specs.declared.operations.BitOp.{BitOp}
@@ -26,7 +26,7 @@ use Rattle.row_table.specs.Rows.{rows}
 use Rattle.core_step.specs.declared.acted.Acted.{Acted}
 use Rattle.core_step.specs.declared.acted.Acted.TheVariants.{Done, Trap}
 use Rattle.core_step.specs.declared.ways.Way.{Way}
-use Rattle.core_step.specs.declared.ways.Way.TheVariants.{Numbers, Strings, Pair, Vectors}
+use Rattle.core_step.specs.declared.ways.Way.TheVariants.{Numbers, Strings, Pair, Vectors, Clears}
 use Rattle.core_step.specs.declared.kinds.Instruction.{Instruction}
 use Rattle.core_step.specs.declared.kinds.Outcome.{Outcome}
 use Rattle.core_step.specs.declared.strings.StringPlan.{StringPlan}
@@ -42,6 +42,7 @@ use Rattle.core_step.specs.Plain.{outcome_in}
 use Rattle.core_step.specs.Performed.{core_performed, is_performed, are_placed, are_vectors_placed, suits, IsPerformed}
 use Rattle.vec_units.specs.Compute.{is_vector}
 use Rattle.vec_units.specs.Form.{IsVectorRow}
+use Rattle.vec_step.specs.declared.kinds.Clearing.TheVariants.{Upper, All}
 use Rattle.vec_step.specs.Plan.{spots_of}
 
 -- ---- the table
@@ -78,6 +79,8 @@ row-performed i row e =
 core-away : (op : CoreOp) → core_way op ≡ Vectors → ⊥
 unfolding core_way
 core-away Cmpxchg8b is = cc
+core-away Vzeroupper is = cc
+core-away Vzeroall is = cc
 core-away op is = cc
 
 vectors-op : (op : Op) → way_of op ≡ Vectors → is_vector op ≡ true
@@ -110,6 +113,8 @@ core-defined : (op : CoreOp) (i : Instruction) (a b c : ℕ) (flags : Flags) (st
     → core_way op ≡ Numbers → IsDefined (core_outcome op i a b c flags steps).acted
 unfolding core_performed core_way core_outcome
 core-defined Cmpxchg8b i a b c flags steps h plain e = absurd (let clash : Pair ≡ Numbers = plain in cc)
+core-defined Vzeroupper i a b c flags steps h plain e = absurd (let clash : Clears Upper ≡ Numbers = plain in cc)
+core-defined Vzeroall i a b c flags steps h plain e = absurd (let clash : Clears All ≡ Numbers = plain in cc)
 core-defined Ldmxcsr i a b c flags steps h plain e =
     chosen-defined (nat_lt b 65536) (gives b i flags) (faults General i flags) (λ done. cc) (λ fault. cc) e
 core-defined op i a b c flags steps h plain e = cc
@@ -160,6 +165,7 @@ plan_by-defined Numbers row d next s p byte is h = instruction-defined row d nex
 plan_by-defined (Strings op) row d next s p byte is h = strings-defined (is_over (strings_of op row d next s) p.gprs) _ p byte
 plan_by-defined Pair row d next s p byte is h = λ e. cc
 plan_by-defined Vectors row d next s p byte is h = λ e. cc
+plan_by-defined (Clears clearing) row d next s p byte is h = λ e. cc
 
 pub plan-defined : (row : Row) (d : Decoded) (len : ℕ) (s : State) (p : Processor) (byte : ℕ → ℕ) → IsPerformed row
     → IsDefined (effect_of (plan_of row d len s) p byte).acted

@@ -9,7 +9,7 @@ use Rattle.core_step.specs.declared.kinds.Operand.{Operand}
 use Rattle.core_step.specs.declared.kinds.Operand.TheVariants.{Absent, Register, HighByte, Memory, Number, Mxcsr}
 use Rattle.core_step.specs.declared.kinds.Instruction.{Instruction}
 use Rattle.core_step.specs.declared.kinds.Plan.{Plan}
-use Rattle.core_step.specs.declared.kinds.Plan.TheVariants.{Plain, OnStrings, OnPair, OnVectors}
+use Rattle.core_step.specs.declared.kinds.Plan.TheVariants.{Plain, OnStrings, OnPair, OnVectors, Clears}
 use Rattle.core_step.specs.declared.kinds.Outcome.{Outcome}
 
 -- the numbers of general registers have one bit above those in ModRM, SIB and the opcode (SDM volume 2, 2.2.1.2)
@@ -37,6 +37,7 @@ PlanFits (Plain i) = InstructionFits i
 PlanFits (OnStrings i) = ⊤
 PlanFits (OnPair i) = ⊤
 PlanFits (OnVectors i) = VectorPlanFits i
+PlanFits (Clears i) = ⊤
 
 -- a fault leaves all but the instruction pointer as it was, and no page is needed any more
 abbrev pub ActedFits : Acted → Outcome → Flags → Type 0

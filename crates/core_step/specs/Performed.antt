@@ -15,7 +15,7 @@ use Rattle.core_step.specs.declared.kinds.Part.TheVariants.{Absent, First, Secon
 use Rattle.core_step.specs.declared.kinds.Roles.{Roles}
 use Rattle.core_step.specs.Roles.{roles_of}
 use Rattle.core_step.specs.declared.ways.Way.{Way}
-use Rattle.core_step.specs.declared.ways.Way.TheVariants.{Numbers, Strings, Pair, Vectors}
+use Rattle.core_step.specs.declared.ways.Way.TheVariants.{Numbers, Strings, Pair, Vectors, Clears}
 use Rattle.core_step.specs.Plan.{way_of}
 use Rattle.vec_step.specs.Plan.{is_immediate, has_two_sources, spots_of}
 
@@ -67,8 +67,8 @@ core_performed Stmxcsr = true
 core_performed Clflush = true
 core_performed Cpuid = false
 core_performed Xgetbv = false
-core_performed Vzeroupper = false
-core_performed Vzeroall = false
+core_performed Vzeroupper = true
+core_performed Vzeroall = true
 
 unfoldable pub is_performed : Op → Bool
 is_performed (Core op) = core_performed op
@@ -194,6 +194,7 @@ suits Vectors row = are_vectors_placed (layout_of row.operands) && is_size (row.
 suits Numbers row = true
 suits (Strings op) row = true
 suits Pair row = true
+suits (Clears clearing) row = true
 
 -- ---- rows
 pub record IsPerformed (row : Row) : Type 0 where

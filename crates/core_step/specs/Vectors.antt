@@ -6,8 +6,10 @@ use Rattle.row_table.specs.declared.kinds.Decoded.{Decoded}
 use Rattle.vec_step.specs.declared.kinds.Places.{Places}
 use Rattle.vec_step.specs.declared.kinds.VectorPlan.{VectorPlan}
 use Rattle.vec_step.specs.Plan.{vector_plan}
+use Rattle.vec_step.specs.Clear.{clearing_left}
 use Rattle.vec_step.specs.Left.{gprs_left, flags_left, extended_left, byte_left}
 use Rattle.core_step.specs.declared.acted.Acted.TheVariants.{Done}
+use Rattle.core_step.specs.declared.kinds.ClearPlan.{ClearPlan}
 use Rattle.core_step.specs.declared.kinds.StackUse.TheVariants.{Aside}
 use Rattle.core_step.specs.Address.{is_memory, reg_number, rm_number, address_of}
 use Rattle.core_step.specs.Operands.{row_size, bases_for}
@@ -46,4 +48,12 @@ vectors_effect i p byte = record {
     steps = p.steps + 1;
   };
   byte = byte_left i p.gprs p.extended byte;
+}
+
+-- VZEROUPPER and VZEROALL access no memory (SDM volume 2, VZEROUPPER and VZEROALL)
+abbrev pub clears_effect : ClearPlan → Processor → (ℕ → ℕ) → Effect
+clears_effect i p byte = record {
+  acted = Done;
+  processor = record p { rip = i.next; extended = clearing_left i.clearing p.extended; steps = p.steps + 1 };
+  byte = byte;
 }

@@ -13,7 +13,7 @@ ghost use Rattle.vec_step.specs.Fits.{PlanFits as VectorPlanFits};
 ghost use Rattle.core_step.specs.Machine.{state_of};
 
 use crate::addressing::{address, is_memory, reg, rm, segment_base};
-use crate::kinds::{Bases, Instruction, Plan, Roles, StackUse};
+use crate::kinds::{Bases, ClearPlan, Instruction, Plan, Roles, StackUse};
 use crate::machine::Machine;
 use crate::operands::{
     destination_size, operation, part_size, row_size, rsp_in_addresses, stack_place,
@@ -208,6 +208,7 @@ impl Machine {
             Way::Strings(op) => Plan::OnStrings(self.on_strings(op, row, d, next)),
             Way::Pair => Plan::OnPair(self.on_pair(row, d, next)),
             Way::Vectors => Plan::OnVectors(self.on_vectors(row, d, next)),
+            Way::Clears(clearing) => Plan::Clears(ClearPlan { clearing, next }),
         }
     }
 }

@@ -98,6 +98,7 @@ impl Machine {
             Plan::OnStrings(i) => self.pages.walk(&string_accesses(i, &self.gprs)),
             Plan::OnPair(i) => self.pages.walk(&pair_accesses(i)),
             Plan::OnVectors(i) => walk_vectors(i, &self.pages),
+            Plan::Clears(_) => self.pages.walk(&[]),
         }
     }
 }

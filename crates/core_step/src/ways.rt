@@ -3,6 +3,7 @@ ghost use Rattle.std.specs.Prelude.{◌≡◌};
 ghost use Rattle.core_step.specs.Plan.{core_way, way_of};
 
 use row_table::{CoreOp, Op, StringOp};
+use vec_step::Clearing;
 
 /// The way in which an instruction is performed.
 #[derive(Clone, Copy)]
@@ -15,6 +16,8 @@ pub enum Way {
     Pair,
     /// Lanes of vectors are taken, and others put to their places.
     Vectors,
+    /// Bytes of vector registers become 0.
+    Clears(Clearing),
 }
 
 impl Way {
@@ -25,6 +28,8 @@ impl Way {
     {
         match op {
             CoreOp::Cmpxchg8b => Way::Pair,
+            CoreOp::Vzeroupper => Way::Clears(Clearing::Upper),
+            CoreOp::Vzeroall => Way::Clears(Clearing::All),
             CoreOp::Mov
             | CoreOp::Movsxd
             | CoreOp::Movzx
@@ -69,9 +74,7 @@ impl Way {
             | CoreOp::Xgetbv
             | CoreOp::Ldmxcsr
             | CoreOp::Stmxcsr
-            | CoreOp::Clflush
-            | CoreOp::Vzeroupper
-            | CoreOp::Vzeroall => Way::Numbers,
+            | CoreOp::Clflush => Way::Numbers,
         }
     }
 

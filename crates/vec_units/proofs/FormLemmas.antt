@@ -1,5 +1,5 @@
 -- The form of each vector row fits.
-use Rattle.std.proofs.Common.{Bool, true, false, cond, ◌/◌, inl, inr, refl, ◌==◌}
+use Rattle.std.proofs.Common.{Bool, true, false, cond, ◌/◌, inl, inr, refl, ◌==◌, ◌||◌}
 use Rattle.std.proofs.Math.Nat.{div-mul-le_self}
 use Rattle.row_table.specs.declared.kinds.Row.{Row}
 use Rattle.row_table.specs.declared.kinds.Fields.{Fields}
@@ -16,6 +16,6 @@ unfolding form_of
 form_fits row f is = record {
   op = is.op;
   width = is.width;
-  len = len-by (f.l == 0) (f.l == 1);
-  lanes = div-mul-le_self (len_of f.l) (row.width / 8);
+  len = len-by (f.l == 0 || row.lengths == 8) (f.l == 1);
+  lanes = div-mul-le_self (len_of row f) (row.width / 8);
 }

@@ -1,5 +1,5 @@
 -- What of a row and its fields a vector result depends on.
-use Rattle.std.specs.Prelude.{ℕ, ◌*◌, ◌/◌, ◌%◌, ◌≤◌, ◌==◌, Bool, true, false, if◌then◌else◌, IsTrue, Option, Some, None, slice_get}
+use Rattle.std.specs.Prelude.{ℕ, ◌*◌, ◌/◌, ◌%◌, ◌≤◌, ◌==◌, ◌||◌, Bool, true, false, if◌then◌else◌, IsTrue, Option, Some, None, slice_get}
 use Rattle.gpr_flags.specs.Registers.{is_size}
 use Rattle.row_table.specs.declared.kinds.Decoded.{Decoded}
 use Rattle.row_table.specs.declared.kinds.Class.{Class}
@@ -11,9 +11,9 @@ use Rattle.lane_kernels.specs.LaneOps.{IsLength}
 use Rattle.vec_units.specs.declared.forms.Form.{Form}
 use Rattle.vec_units.specs.Compute.{is_vector}
 
--- the bytes of the vectors, by the length field (SDM volume 2, 2.3.6 and 2.7.1)
-abbrev pub len_of : (l : ℕ) → ℕ
-len_of l = if l == 0 then 16 else if l == 1 then 32 else 64
+-- the bytes of the vectors, by the length field (SDM volume 2, 2.3.6 and 2.7.1); rows that ignore L have 16
+abbrev pub len_of : Row → Fields → ℕ
+len_of row f = if f.l == 0 || row.lengths == 8 then 16 else if f.l == 1 then 32 else 64
 
 -- legacy rows leave the bytes above the vectors as they were (SDM volume 1, 14.1.3)
 abbrev pub is_legacy : Class → Bool
@@ -25,8 +25,8 @@ unfoldable pub form_of : Row → Fields → Form
 form_of row f = record {
   op = row.op;
   width = row.width / 8;
-  lanes = len_of f.l / (row.width / 8);
-  len = len_of f.l;
+  lanes = len_of row f / (row.width / 8);
+  len = len_of row f;
   imm = f.imm % 256;
   masking = row.mask;
   zeroing = f.z;

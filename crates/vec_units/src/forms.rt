@@ -21,14 +21,16 @@ pub struct Form {
     pub keeps: bool,
 }
 
-/// The bytes of the vectors, by the length field.
-fn len_for(l: u8) -> u8
-    ensures { result ≡ len_of l }
+/// The bytes of the vectors, by the length field, where the row doesn't ignore L.
+fn len_for(row: &Row, fields: &Fields) -> u8
+    ensures { result ≡ len_of row.now fields.now }
 {
-    match l {
-        0 => 16,
-        1 => 32,
-        _ => 64,
+    if fields.l == 0 || row.lengths == 8 {
+        16
+    } else if fields.l == 1 {
+        32
+    } else {
+        64
     }
 }
 
@@ -50,7 +52,7 @@ pub fn form_for(row: &Row, fields: &Fields) -> Form
     ensures fits { FormFits result }
 {
     let width = row.width / 8;
-    let len = len_for(fields.l);
+    let len = len_for(row, fields);
     Form {
         op: row.op,
         width,
