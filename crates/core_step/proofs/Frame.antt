@@ -25,7 +25,7 @@ use Rattle.core_step.specs.declared.kinds.Outcome.{Outcome}
 use Rattle.core_step.specs.declared.strings.StringPlan.{StringPlan}
 use Rattle.core_step.specs.declared.pair.PairPlan.{PairPlan}
 use Rattle.core_step.specs.declared.kinds.Plan.{Plan}
-use Rattle.core_step.specs.declared.kinds.Plan.TheVariants.{Plain, OnStrings, OnPair}
+use Rattle.core_step.specs.declared.kinds.Plan.TheVariants.{Plain, OnStrings, OnPair, OnVectors, Clears}
 use Rattle.machine_state.specs.declared.kinds.Access.{Access}
 use Rattle.core_step.specs.Size.{bytes_in}
 use Rattle.core_step.specs.Access.{operand_access, kind_of, accesses_of, first_fault}
@@ -38,8 +38,10 @@ use Rattle.core_step.specs.Alignment.{is_misaligned}
 use Rattle.core_step.specs.Act.{trapped, carried_out, unless, performed_as, performed_row, performed}
 use Rattle.core_step.specs.Machine.{accesses, accesses_by, AgreeOn, SparesByte, IsFramed}
 use Rattle.core_step.proofs.Parts.{All-destination}
-use Rattle.core_step.proofs.Seeing.{agree-seen, seen_memory, written_outside, put_in-spared, put_in-is, HasAt}
+use Rattle.core_step.proofs.Seeing.{agree-seen, seen_memory, put_in-spared, put_in-is, HasAt}
 use Rattle.core_step.proofs.Local.{Agrees, plan-agrees}
+use Rattle.vec_step.proofs.Accesses.{written_outside}
+use Rattle.vec_step.proofs.Locality.{byte_spared}
 
 -- a number has as many bytes as its size says
 length-number_bytes : (size number : ℕ) → length (number_bytes size number) ≡ size
@@ -122,6 +124,8 @@ unfolding strings_access
 plan-spared (Plain i) s at spared = byte_left-spared i (outcome_in i (processor_of s) s.memory.byte) s.memory.byte at spared
 plan-spared (OnStrings i) s at spared = strings-spared (is_over i s.gprs) i (processor_of s) s.memory.byte at spared
 plan-spared (OnPair i) s at spared = pair-spared i (processor_of s) s.memory.byte at spared
+plan-spared (OnVectors i) s at spared = byte_spared i s.gprs s.extended s.memory.byte at spared
+plan-spared (Clears i) s at spared = refl
 
 -- so an effect by what is seen of memory, put to the write accesses, is the one by all of memory
 pub carried-is : (plan : Plan) (s : State)

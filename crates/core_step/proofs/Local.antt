@@ -1,7 +1,7 @@
 -- An instruction depends on its accesses alone.
 use Rattle.std.proofs.Common.{◌≡◌, ℕ, ◌+◌, ◌*◌, ◌/◌, ◌<◌, ◌≤◌, Bool, true, false, List, [], ◌∷◌, Option, Some, None, cond, zero, suc, refl, sym, subst, ap, ◌∙◌, arith, slice_get, slice_index}
 use Rattle.std.specs.List.{All}
-use Rattle.std.proofs.lemmas.List.Elements.{All-head, All-tail}
+use Rattle.std.proofs.lemmas.List.Elements.{All-head, All-tail, All-weaker}
 use Rattle.byteorder.specs.Endian.{little_number}
 use Rattle.machine_state.specs.declared.kinds.Kind.{Kind}
 use Rattle.machine_state.specs.declared.kinds.Kind.TheVariants.{Read}
@@ -30,9 +30,9 @@ use Rattle.core_step.specs.declared.kinds.Outcome.{Outcome}
 use Rattle.core_step.specs.declared.strings.StringPlan.{StringPlan}
 use Rattle.core_step.specs.declared.pair.PairPlan.{PairPlan}
 use Rattle.core_step.specs.declared.ways.Way.{Way}
-use Rattle.core_step.specs.declared.ways.Way.TheVariants.{Numbers, Strings, Pair}
+use Rattle.core_step.specs.declared.ways.Way.TheVariants.{Numbers, Strings, Pair, Vectors, Clears as ClearsBytes}
 use Rattle.core_step.specs.declared.kinds.Plan.{Plan}
-use Rattle.core_step.specs.declared.kinds.Plan.TheVariants.{Plain, OnStrings, OnPair}
+use Rattle.core_step.specs.declared.kinds.Plan.TheVariants.{Plain, OnStrings, OnPair, OnVectors, Clears}
 use Rattle.machine_state.specs.declared.kinds.Access.{Access}
 use Rattle.core_step.specs.Size.{bytes_in}
 use Rattle.core_step.specs.Operands.{instruction_of, instruction_by}
@@ -47,7 +47,12 @@ use Rattle.core_step.specs.Alignment.{is_misaligned}
 use Rattle.core_step.specs.Act.{trapped, carried_out, unless, performed_along, performed_as, performed_row, performed}
 use Rattle.core_step.specs.Machine.{accesses, accesses_by, AgreeOn, IsSame, IsLocal}
 use Rattle.core_step.proofs.Parts.{All-source, All-destination}
-use Rattle.core_step.proofs.Seeing.{written_same, seen_same, put_in-same}
+use Rattle.core_step.proofs.Seeing.{seen_same, put_in-same}
+use Rattle.core_step.specs.Vectors.{vectors_of, vectors_effect}
+use Rattle.vec_step.specs.declared.kinds.VectorPlan.{VectorPlan}
+use Rattle.vec_step.specs.Plan.{vector_access}
+use Rattle.vec_step.proofs.Accesses.{written_same}
+use Rattle.vec_step.proofs.Locality.{SameIn, gprs_same, flags_same, extended_same, byte_same}
 
 -- ---- the fault
 -- why a byte can't be had depends on its page's permissions alone
@@ -256,6 +261,24 @@ unfolding pair_at
 pair-agrees i p memory other agree =
     rw (← number_same (pair_write i) [] memory other agree) (exchanged-agrees i (pair_at i memory.byte) p memory.byte other.byte)
 
+-- ---- vectors
+vectors-agrees : (i : VectorPlan) (p : Processor) (memory other : Memory) → All (AgreeOn memory other) (vector_access i)
+    → Agrees memory.byte other.byte (vectors_effect i p memory.byte) (vectors_effect i p other.byte)
+vectors-agrees i p memory other agree =
+    let same : All (SameIn memory.byte other.byte) (vector_access i) =
+    All-weaker (AgreeOn memory other) (SameIn memory.byte other.byte) (λ access agrees at low high. (agrees at low high).1) (vector_access i) agree in
+    record {
+      acted = refl;
+      processor = λ k. record p {
+        gprs = gprs_same i p.gprs p.extended memory.byte other.byte same k;
+        flags = flags_same i p.gprs p.extended memory.byte other.byte same p.flags k;
+        rip = i.next;
+        extended = extended_same i p.gprs p.extended memory.byte other.byte same k;
+        steps = p.steps + 1;
+      };
+      byte_is = byte_same i p.gprs p.extended memory.byte other.byte same;
+    }
+
 -- ---- any kind
 -- where memories agree along the accesses of a plan, so do its effects
 pub plan-agrees : (plan : Plan) (s : State) (other : Memory) → All (AgreeOn s.memory other) (plan_accesses plan s)
@@ -264,6 +287,8 @@ unfolding strings_access
 plan-agrees (Plain i) s other agree = plain-agrees i (processor_of s) s.memory other agree
 plan-agrees (OnStrings i) s other agree = strings-agrees (is_over i s.gprs) i (processor_of s) s.memory other agree
 plan-agrees (OnPair i) s other agree = pair-agrees i (processor_of s) s.memory other agree
+plan-agrees (OnVectors i) s other agree = vectors-agrees i (processor_of s) s.memory other agree
+plan-agrees (Clears i) s other agree = record { acted = refl; processor = refl; byte_is = λ at same. same }
 
 -- a state with another memory
 abbrev with_memory : State → Memory → State
@@ -314,11 +339,18 @@ strings_of_same : (op : StringOp) (row : Row) (d : Decoded) (next : ℕ) (s : St
 unfolding strings_of
 strings_of_same op row d next s other = refl
 
+vectors_of_same : (row : Row) (d : Decoded) (next : ℕ) (s : State) (other : Memory)
+    → vectors_of row d next (with_memory s other) ≡ vectors_of row d next s
+unfolding vectors_of
+vectors_of_same row d next s other = refl
+
 plan_by_same : (way : Way) (row : Row) (d : Decoded) (next : ℕ) (s : State) (other : Memory)
     → plan_by way row d next (with_memory s other) ≡ plan_by way row d next s
 plan_by_same Numbers row d next s other = ap Plain (instruction_same row d next s other)
 plan_by_same (Strings op) row d next s other = ap OnStrings (strings_of_same op row d next s other)
 plan_by_same Pair row d next s other = ap OnPair (pair_of_same row d next s other)
+plan_by_same Vectors row d next s other = ap OnVectors (vectors_of_same row d next s other)
+plan_by_same (ClearsBytes clearing) row d next s other = refl
 
 plan_of_same : (row : Row) (d : Decoded) (len : ℕ) (s : State) (other : Memory)
     → plan_of row d len (with_memory s other) ≡ plan_of row d len s
@@ -330,6 +362,8 @@ accesses-same : (plan : Plan) (s : State) (other : Memory) → plan_accesses pla
 accesses-same (Plain i) s other = refl
 accesses-same (OnStrings i) s other = refl
 accesses-same (OnPair i) s other = refl
+accesses-same (OnVectors i) s other = refl
+accesses-same (Clears i) s other = refl
 
 misaligned-same : (row : Row) (d : Decoded) (len : ℕ) (s : State) (other : Memory)
     → is_misaligned row d len (with_memory s other) ≡ is_misaligned row d len s

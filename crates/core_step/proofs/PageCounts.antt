@@ -1,5 +1,5 @@
 -- How many pages an instruction's accesses touch.
-use Rattle.std.proofs.Common.{◌≡◌, ℕ, ◌+◌, ◌*◌, ◌/◌, ◌≤◌, inl, inr, Bool, true, false, cond, List, [], ◌∷◌, ◌++◌, Option, Some, None, length, length-append, refl, arith, slice_get}
+use Rattle.std.proofs.Common.{◌≡◌, ℕ, ◌+◌, ◌*◌, ◌/◌, ◌^◌, ◌<◌, ◌≤◌, inl, inr, Bool, true, false, cond, List, [], ◌∷◌, ◌++◌, Option, Some, None, length, length-append, refl, arith}
 use Rattle.std.specs.List.{All}
 use Rattle.std.proofs.lemmas.Bool.{cases_lt}
 use Rattle.std.proofs.lemmas.List.Elements.{All-nil, All-cons, All-head, All-tail, All-append, All-weaker, Contains-append_right}
@@ -11,7 +11,6 @@ use Rattle.row_table.specs.declared.kinds.Row.{Row}
 use Rattle.row_table.specs.declared.kinds.Decoded.{Decoded}
 use Rattle.row_table.specs.declared.operations.StringOp.{StringOp}
 use Rattle.row_table.specs.declared.operations.StringOp.TheVariants.{Movs, Cmps, Stos, Lods, Scas}
-use Rattle.row_table.specs.Rows.{rows}
 use Rattle.string_unit.specs.Strings.{string_accesses}
 use Rattle.core_step.specs.declared.sizes.Size.{Size}
 use Rattle.core_step.specs.declared.sizes.Size.TheVariants.{Byte, Word, Double, Quad}
@@ -19,16 +18,21 @@ use Rattle.core_step.specs.declared.kinds.Operand.{Operand}
 use Rattle.core_step.specs.declared.kinds.Operand.TheVariants.{Absent, Register, HighByte, Memory, Number, Mxcsr}
 use Rattle.core_step.specs.declared.kinds.Instruction.{Instruction}
 use Rattle.core_step.specs.declared.pair.PairPlan.{PairPlan}
-use Rattle.core_step.specs.declared.kinds.Plan.{Plan}
-use Rattle.core_step.specs.declared.kinds.Plan.TheVariants.{Plain, OnStrings, OnPair}
+use Rattle.core_step.specs.declared.ways.Way.{Way}
+use Rattle.core_step.specs.declared.ways.Way.TheVariants.{Numbers, Strings, Pair, Vectors, Clears}
 use Rattle.core_step.specs.Size.{bytes_in}
 use Rattle.core_step.specs.Access.{operand_access, kind_of, accesses_of}
-use Rattle.core_step.specs.Strings.{is_over, source_of, destination_of, strings_access}
-use Rattle.core_step.specs.Pair.{pair_write}
-use Rattle.core_step.specs.Plan.{plan_of, plan_accesses}
-use Rattle.core_step.specs.Alignment.{is_misaligned}
+use Rattle.core_step.specs.Strings.{strings_of, is_over, source_of, destination_of, strings_access}
+use Rattle.core_step.specs.Pair.{pair_of, pair_write}
+use Rattle.core_step.specs.Plan.{way_of, next_of, plan_by, plan_of, plan_accesses}
+use Rattle.core_step.specs.Vectors.{address_in, places_of, vectors_of}
+use Rattle.core_step.specs.Address.{is_memory, address_of}
+use Rattle.core_step.specs.Operands.{instruction_of}
+use Rattle.core_step.specs.Fits.{PlanFits}
+use Rattle.vec_step.specs.Plan.{vector_access}
+use Rattle.vec_step.specs.Fits.{PlanFits as VectorPlanFits}
+use Rattle.vec_step.proofs.Nearness.{IsNear, vector-near}
 use Rattle.core_step.specs.Pages.{LiesOn, TouchesAtMost, fetch_accesses}
-use Rattle.core_step.specs.Machine.{accesses, accesses_by}
 
 -- no access is longer than a page
 abbrev IsShort : Access → Type 0
@@ -121,26 +125,66 @@ strings-few false op size source destination short = iteration-few op size sourc
 pair-few : (i : PairPlan) → AreFew 2 (pair_write i ∷ [])
 pair-few i = few-more 1 2 _ (omega arith) (few-one _ (omega (arith, bytes-short i.half)))
 
+-- ---- vectors
+-- the pages of 64 bytes from an address on, which may go on from 0
+near_pages : (addr : ℕ) → List ℕ
+near_pages addr = (addr / page_size) ∷ (addr / page_size + 1) ∷ 0 ∷ []
+
+near-lies : (addr : ℕ) (access : Access) → IsNear addr access → LiesOn (near_pages addr) access
+unfolding near_pages
+near-lies addr access near at low high = elim (near at low high) [
+  | inl inside ↦ elim (cases_lt (addr / page_size) (at / page_size)) [
+    | inl above ↦ (1, omega arith, omega (arith, inside.0, inside.1))
+    | inr below ↦ (0, omega arith, omega (arith, inside.0, inside.1))
+  ]
+  | inr first ↦ (2, omega arith, omega (arith, first))
+]
+
+near-touch : (addr : ℕ) (xs : List Access) → All (IsNear addr) xs → TouchesAtMost 4 xs
+unfolding near_pages
+near-touch addr xs near = record {
+  pages = near_pages addr;
+  few = omega arith;
+  lie = All-weaker (IsNear addr) (LiesOn (near_pages addr)) (near-lies addr) xs near;
+}
+
+named-is : (named : Bool) (addr a : ℕ) → cond named (Some addr) None ≡ Some a → a ≡ addr
+named-is true addr a e = cc
+named-is false addr a e = cc
+
+address-below : (row : Row) (d : Decoded) (next : ℕ) (s : State) → address_in row d next s < 2 ^ 64
+unfolding address_of
+address-below row d next s = omega arith
+
+vectors-touch : (row : Row) (d : Decoded) (next : ℕ) (s : State) → VectorPlanFits (vectors_of row d next s)
+    → TouchesAtMost 4 (vector_access (vectors_of row d next s))
+unfolding vectors_of
+vectors-touch row d next s fits =
+    near-touch (address_in row d next s) _
+    (vector-near row d.fields (places_of row d next s) next s.extended.k (address_in row d next s) (address-below row d next s)
+    (named-is (is_memory d.fields) (address_in row d next s)) fits)
+
+-- no access touches a page
+pub none-touch : TouchesAtMost 4 []
+none-touch = few-touch 2 [] (few-none 2)
+
 -- ---- the whole
-plan-few : (plan : Plan) (s : State) → AreFew 2 (plan_accesses plan s)
+way-touch : (way : Way) (row : Row) (d : Decoded) (next : ℕ) (s : State) → PlanFits (plan_by way row d next s)
+    → TouchesAtMost 4 (plan_accesses (plan_by way row d next s) s)
 unfolding strings_access
-plan-few (Plain i) s = plain-few i
-plan-few (OnStrings i) s =
-    strings-few (is_over i s.gprs) i.op (bytes_in i.size) (source_of i s.gprs) (destination_of i s.gprs) (bytes-short i.size)
-plan-few (OnPair i) s = pair-few i
-
-by_alignment-few : (misaligned : Bool) (plan : Plan) (s : State) → AreFew 2 (cond misaligned [] (plan_accesses plan s))
-by_alignment-few true plan s = few-none 2
-by_alignment-few false plan s = plan-few plan s
-
-row-few : (found : Option Row) (d : Decoded) (len : ℕ) (s : State) → AreFew 2 (accesses_by found d len s)
-row-few (Some row) d len s = by_alignment-few (is_misaligned row d len s) (plan_of row d len s) s
-row-few None d len s = few-none 2
+way-touch Numbers row d next s fits = few-touch 2 _ (plain-few (instruction_of row d next s))
+way-touch (Strings op) row d next s fits =
+    let i = strings_of op row d next s in
+    few-touch 2 _ (strings-few (is_over i s.gprs) i.op (bytes_in i.size) (source_of i s.gprs) (destination_of i s.gprs) (bytes-short i.size))
+way-touch Pair row d next s fits = few-touch 2 _ (pair-few (pair_of row d next s))
+way-touch Vectors row d next s fits = vectors-touch row d next s fits
+way-touch (Clears clearing) row d next s fits = none-touch
 
 -- the accesses of an instruction touch at most four pages
-pub accesses-touch : (d : Decoded) (len : ℕ) (s : State) → TouchesAtMost 4 (accesses d len s)
-unfolding accesses
-accesses-touch d len s = few-touch 2 _ (row-few (slice_get rows d.row) d len s)
+pub plan-touch : (row : Row) (d : Decoded) (len : ℕ) (s : State) → PlanFits (plan_of row d len s)
+    → TouchesAtMost 4 (plan_accesses (plan_of row d len s) s)
+unfolding plan_of
+plan-touch row d len s fits = way-touch (way_of row.op) row d (next_of len s) s fits
 
 -- and the fetch of one at most two
 pub fetch-touches : (rip : ℕ) → TouchesAtMost 2 (fetch_accesses rip)

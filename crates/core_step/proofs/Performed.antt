@@ -14,7 +14,7 @@ use Rattle.row_table.specs.declared.kinds.Decoded.{Decoded}
 use Rattle.row_table.specs.declared.operations.Op.{Op}
 use Rattle.row_table.specs.declared.operations.Op.TheVariants.{Core, Gpr, Bit, String}
 use Rattle.row_table.specs.declared.operations.CoreOp.{CoreOp}
-use Rattle.row_table.specs.declared.operations.CoreOp.TheVariants.{Cmpxchg8b, Nop, Ldmxcsr}
+use Rattle.row_table.specs.declared.operations.CoreOp.TheVariants.{Cmpxchg8b, Nop, Ldmxcsr, Vzeroupper, Vzeroall}
 use Rattle.row_table.specs.declared.operations.GprOp.{GprOp}
 use Rattle.row_table.specs.declared.operations.GprOp.TheVariants.{Div, Idiv}
 use Rattle.row_table.specs.declared.operations.BitOp.{BitOp}
@@ -26,7 +26,7 @@ use Rattle.row_table.specs.Rows.{rows}
 use Rattle.core_step.specs.declared.acted.Acted.{Acted}
 use Rattle.core_step.specs.declared.acted.Acted.TheVariants.{Trap}
 use Rattle.core_step.specs.declared.ways.Way.{Way}
-use Rattle.core_step.specs.declared.ways.Way.TheVariants.{Numbers, Strings, Pair}
+use Rattle.core_step.specs.declared.ways.Way.TheVariants.{Numbers, Strings, Pair, Vectors, Clears}
 use Rattle.core_step.specs.declared.kinds.Instruction.{Instruction}
 use Rattle.core_step.specs.declared.kinds.Outcome.{Outcome}
 use Rattle.core_step.specs.declared.strings.StringPlan.{StringPlan}
@@ -39,19 +39,24 @@ use Rattle.core_step.specs.Plan.{core_way, way_of, plan_by, plan_of, next_of, ef
 use Rattle.core_step.specs.Result.{gives, faults, core_outcome, gpr_outcome, bit_outcome, outcome_by, outcome_of}
 use Rattle.core_step.specs.Effect.{Processor}
 use Rattle.core_step.specs.Plain.{outcome_in}
-use Rattle.core_step.specs.Performed.{core_performed, is_performed, are_placed, IsPerformed}
+use Rattle.core_step.specs.Performed.{core_performed, is_performed, are_placed, are_vectors_placed, suits, IsPerformed}
+use Rattle.vec_units.specs.Compute.{is_vector}
+use Rattle.vec_units.specs.Form.{IsVectorRow}
+use Rattle.vec_step.specs.declared.kinds.Clearing.TheVariants.{Upper, All}
+use Rattle.vec_step.specs.Plan.{spots_of}
 
 -- ---- the table
 abbrev is_row_performed : Row → Bool
 is_row_performed row =
-    is_performed row.op && are_placed (layout_of row.operands) (roles_of row.op (layout_of row.operands))
+    is_performed row.op
+    && (are_placed (layout_of row.operands) (roles_of row.op (layout_of row.operands)) && suits (way_of row.op) row)
 
 unfoldable all_performed : List Row → Bool
 all_performed [] = true
 all_performed (row ∷ rest) = is_row_performed row && all_performed rest
 
 rows-performed : all_performed rows ≡ true
-unfolding all_performed is_performed core_performed core_roles gpr_roles bit_roles layout_of letters rows legacy one_byte two_byte three_byte vex_rows vex_0f vex_0f38 vex_0f3a
+unfolding all_performed is_performed core_performed core_way spots_of core_roles gpr_roles bit_roles layout_of letters rows legacy one_byte two_byte three_byte vex_rows vex_0f vex_0f38 vex_0f3a
 rows-performed = refl
 
 same_row : (row other : Row) → some row ≡ some other → row ≡ other
@@ -67,7 +72,29 @@ performed-at (first ∷ rest) (suc i) row h e = performed-at rest i row (and_par
 pub row-performed : (i : ℕ) (row : Row) → slice_get rows i ≡ some row → IsPerformed row
 row-performed i row e =
     let parts = and_parts (is_performed row.op) _ (performed-at rows i row rows-performed e) in
-    record { operation = parts.0; operands = parts.1 }
+    let rest = and_parts _ (suits (way_of row.op) row) parts.1 in
+    record { operation = parts.0; operands = rest.0; way = rest.1 }
+
+-- an operation that is performed on vectors is one on vectors
+core-away : (op : CoreOp) → core_way op ≡ Vectors → ⊥
+unfolding core_way
+core-away Cmpxchg8b is = cc
+core-away Vzeroupper is = cc
+core-away Vzeroall is = cc
+core-away op is = cc
+
+vectors-op : (op : Op) → way_of op ≡ Vectors → is_vector op ≡ true
+unfolding is_vector
+vectors-op (Lane op) is = refl
+vectors-op (Vector op) is = refl
+vectors-op (Core op) is = absurd (core-away op is)
+vectors-op op is = cc
+
+-- so the rows of such operations have lanes
+pub row-vectors : (row : Row) → IsPerformed row → way_of row.op ≡ Vectors → IsVectorRow row
+row-vectors row performed is =
+    let fits : suits Vectors row ≡ true = subst (λ (way : Way). suits way row ≡ true) is performed.way in
+    record { op = vectors-op row.op is; width = (and_parts (are_vectors_placed (layout_of row.operands)) _ fits).1 }
 
 -- ---- outcomes
 abbrev pub IsDefined : Acted → Type 0
@@ -86,6 +113,8 @@ core-defined : (op : CoreOp) (i : Instruction) (a b c : ℕ) (flags : Flags) (st
     → core_way op ≡ Numbers → IsDefined (core_outcome op i a b c flags steps).acted
 unfolding core_performed core_way core_outcome
 core-defined Cmpxchg8b i a b c flags steps h plain e = absurd (let clash : Pair ≡ Numbers = plain in cc)
+core-defined Vzeroupper i a b c flags steps h plain e = absurd (let clash : Clears Upper ≡ Numbers = plain in cc)
+core-defined Vzeroall i a b c flags steps h plain e = absurd (let clash : Clears All ≡ Numbers = plain in cc)
 core-defined Ldmxcsr i a b c flags steps h plain e =
     chosen-defined (nat_lt b 65536) (gives b i flags) (faults General i flags) (λ done. cc) (λ fault. cc) e
 core-defined op i a b c flags steps h plain e = cc
@@ -108,6 +137,8 @@ outcome-defined (Core op) i a b c flags steps h = core-defined op i a b c flags 
 outcome-defined (Gpr op) i a b c flags steps h = gpr-defined op i a b c flags
 outcome-defined (Bit op) i a b c flags steps h = bit-defined op i a b c flags
 outcome-defined (String op) i a b c flags steps h = absurd (let clash : Strings op ≡ Numbers = h.1 in cc)
+outcome-defined (Lane op) i a b c flags steps h = absurd (let clash : Vectors ≡ Numbers = h.1 in cc)
+outcome-defined (Vector op) i a b c flags steps h = absurd (let clash : Vectors ≡ Numbers = h.1 in cc)
 outcome-defined op i a b c flags steps h = absurd (let clash : false ≡ true = h.0 in cc)
 
 -- XCHG of rAX with itself is the no-operation, which is performed
@@ -133,6 +164,8 @@ plan_by-defined : (way : Way) (row : Row) (d : Decoded) (next : ℕ) (s : State)
 plan_by-defined Numbers row d next s p byte is h = instruction-defined row d next s p byte (h, is)
 plan_by-defined (Strings op) row d next s p byte is h = strings-defined (is_over (strings_of op row d next s) p.gprs) _ p byte
 plan_by-defined Pair row d next s p byte is h = λ e. cc
+plan_by-defined Vectors row d next s p byte is h = λ e. cc
+plan_by-defined (Clears clearing) row d next s p byte is h = λ e. cc
 
 pub plan-defined : (row : Row) (d : Decoded) (len : ℕ) (s : State) (p : Processor) (byte : ℕ → ℕ) → IsPerformed row
     → IsDefined (effect_of (plan_of row d len s) p byte).acted

@@ -1,5 +1,5 @@
 -- What an instruction sees of memory by its access list, and what it puts there.
-use Rattle.std.proofs.Common.{◌≡◌, ℕ, ◌+◌, ◌-◌, ◌<◌, ◌≤◌, ◌⊎◌, inl, inr, Bool, true, false, cond, ◌||◌, ◌&&◌, nat_le, nat_lt, List, [], ◌∷◌, zero, suc, refl, sym, ap, ◌∙◌, arith, length, get_or, slice_index, add-zero}
+use Rattle.std.proofs.Common.{◌≡◌, ℕ, ◌+◌, ◌-◌, ◌<◌, ◌≤◌, ◌⊎◌, inl, inr, Bool, true, false, cond, ◌||◌, ◌&&◌, nat_le, nat_lt, List, [], ◌∷◌, zero, suc, refl, sym, ap, ◌∙◌, arith, length, get_or, add-zero}
 use Rattle.std.specs.List.{All, list_any}
 use Rattle.std.proofs.lemmas.Bool.{cases_lt}
 use Rattle.std.proofs.lemmas.List.Elements.{All-nil, All-cons, All-head, All-tail, All-weaker}
@@ -7,10 +7,11 @@ use Rattle.machine_state.specs.declared.kinds.Kind.{Kind}
 use Rattle.machine_state.specs.declared.kinds.Kind.TheVariants.{Read, Write, Execute}
 use Rattle.machine_state.specs.declared.kinds.Access.{Access}
 use Rattle.machine_state.specs.Memory.{Memory, bytes_at, written}
-use Rattle.machine_state.proofs.MemoryLemmas.{length-bytes_at, below_write, in_write, above_write, written_below, written_in, written_above}
+use Rattle.machine_state.proofs.MemoryLemmas.{length-bytes_at, below_write, in_write, above_write, written_in}
 use Rattle.core_step.specs.Access.{is_write}
 use Rattle.core_step.specs.Effect.{covers, seen_in, put_by, put_in}
 use Rattle.core_step.specs.Machine.{AgreeOn, SparesByte}
+use Rattle.vec_step.proofs.Accesses.{written_outside, written_same}
 
 -- ---- what is seen
 -- memories that agree on a list have the same byte at each address in it
@@ -75,18 +76,6 @@ agree-seen xs memory =
     )) xs (lie-in xs)
 
 -- ---- what is put
--- bytes that are written change no byte before them or behind them
-pub written_outside : (byte : ℕ → ℕ) (addr len : ℕ) (bytes : List ℕ) (at : ℕ) → length bytes ≡ len → (at < addr) ⊎ (addr + len ≤ at)
-    → written byte addr bytes at ≡ byte at
-written_outside byte addr len bytes at count (inl below) = written_below byte addr bytes at below
-written_outside byte addr len bytes at count (inr above) = written_above byte addr bytes at (rw count above)
-
--- bytes that are written leave a byte the same in two memories where it was the same
-pub written_same : (byte other : ℕ → ℕ) (addr : ℕ) (bytes : List ℕ) (at : ℕ) → byte at ≡ other at
-    → written byte addr bytes at ≡ written other addr bytes at
-written_same byte other addr bytes at same =
-    ap (λ (old : ℕ). cond (nat_le addr at && nat_lt at (addr + length bytes)) (slice_index bytes (at - addr)) old) same
-
 -- a byte of an access, by its place
 byte-at : (byte : ℕ → ℕ) (addr len i : ℕ) → i < len → get_or (bytes_at byte addr len) i 0 ≡ byte (addr + i)
 unfolding bytes_at

@@ -5,9 +5,8 @@ use Rattle.row_table.specs.declared.kinds.Align.{Align}
 use Rattle.row_table.specs.declared.kinds.Align.TheVariants.{Free, Sixteen, Size}
 use Rattle.row_table.specs.declared.kinds.Row.{Row}
 use Rattle.row_table.specs.declared.kinds.Decoded.{Decoded}
-use Rattle.core_step.specs.declared.kinds.StackUse.TheVariants.{Aside}
-use Rattle.core_step.specs.Address.{is_memory, address_of}
-use Rattle.core_step.specs.Operands.{row_size, bases_for}
+use Rattle.core_step.specs.Address.{is_memory}
+use Rattle.core_step.specs.Vectors.{address_in}
 use Rattle.core_step.specs.Plan.{next_of}
 
 -- how many bytes a vector has, by L (SDM volume 2, 2.3.6 and 2.7.1)
@@ -23,6 +22,4 @@ breaks Size l addr = not (addr % vector_bytes l == 0)
 -- whether ModRM names memory at such an address
 unfoldable pub is_misaligned : Row → Decoded → (len : ℕ) → State → Bool
 is_misaligned row d len s =
-    breaks row.align d.fields.l
-    (address_of d.fields d.disp s.gprs (bases_for Aside (row_size row d.fields) s (next_of len s)))
-    && is_memory d.fields
+    breaks row.align d.fields.l (address_in row d (next_of len s) s) && is_memory d.fields

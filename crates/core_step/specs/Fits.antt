@@ -2,13 +2,14 @@
 use Rattle.std.specs.Prelude.{◌≡◌, ◌<◌, None, ⊤}
 use Rattle.gpr_flags.specs.declared.kinds.Flags.{Flags}
 use Rattle.row_table.specs.declared.kinds.Fields.{Fields}
+use Rattle.vec_step.specs.Fits.{PlanFits as VectorPlanFits}
 use Rattle.core_step.specs.declared.acted.Acted.{Acted}
 use Rattle.core_step.specs.declared.acted.Acted.TheVariants.{Done, Call, Trap, Need}
 use Rattle.core_step.specs.declared.kinds.Operand.{Operand}
 use Rattle.core_step.specs.declared.kinds.Operand.TheVariants.{Absent, Register, HighByte, Memory, Number, Mxcsr}
 use Rattle.core_step.specs.declared.kinds.Instruction.{Instruction}
 use Rattle.core_step.specs.declared.kinds.Plan.{Plan}
-use Rattle.core_step.specs.declared.kinds.Plan.TheVariants.{Plain, OnStrings, OnPair}
+use Rattle.core_step.specs.declared.kinds.Plan.TheVariants.{Plain, OnStrings, OnPair, OnVectors, Clears}
 use Rattle.core_step.specs.declared.kinds.Outcome.{Outcome}
 
 -- the numbers of general registers have one bit above those in ModRM, SIB and the opcode (SDM volume 2, 2.2.1.2)
@@ -35,6 +36,8 @@ abbrev pub PlanFits : Plan → Type 0
 PlanFits (Plain i) = InstructionFits i
 PlanFits (OnStrings i) = ⊤
 PlanFits (OnPair i) = ⊤
+PlanFits (OnVectors i) = VectorPlanFits i
+PlanFits (Clears i) = ⊤
 
 -- a fault leaves all but the instruction pointer as it was, and no page is needed any more
 abbrev pub ActedFits : Acted → Outcome → Flags → Type 0

@@ -10,6 +10,7 @@ pub mod Result
 pub mod Plain
 pub mod Strings
 pub mod Pair
+pub mod Vectors
 pub mod Plan
 pub mod Alignment
 pub mod Pages

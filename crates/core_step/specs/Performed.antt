@@ -1,5 +1,6 @@
 -- What holds of every row: its operation is performed, and each operand that it needs has a place in the row's list.
-use Rattle.std.specs.Prelude.{◌≡◌, Bool, true, false, ◌&&◌}
+use Rattle.std.specs.Prelude.{◌≡◌, ◌/◌, Bool, true, false, not, ◌&&◌, ◌||◌}
+use Rattle.gpr_flags.specs.Registers.{is_size}
 use Rattle.row_table.specs.declared.kinds.Spot.{Spot}
 use Rattle.row_table.specs.declared.kinds.Spot.TheVariants.{Absent as NoSpot, Reg, Rm, Vvvv, OpcodeReg, Rax as AtRax, Cl, Memory, VectorMemory, Offset, Immediate, Relative, One, VectorReg, VectorRm, VectorVvvv, VectorImmediate, Xmm0, OpmaskReg, OpmaskRm, OpmaskVvvv}
 use Rattle.row_table.specs.declared.kinds.Layout.{Layout}
@@ -13,6 +14,10 @@ use Rattle.core_step.specs.declared.kinds.Part.{Part}
 use Rattle.core_step.specs.declared.kinds.Part.TheVariants.{Absent, First, Second, Third, Bit, Address, Stack, Rax, Rcx, Rdx, Rbp, R11, Ah, UpperHalf, Mxcsr}
 use Rattle.core_step.specs.declared.kinds.Roles.{Roles}
 use Rattle.core_step.specs.Roles.{roles_of}
+use Rattle.core_step.specs.declared.ways.Way.{Way}
+use Rattle.core_step.specs.declared.ways.Way.TheVariants.{Numbers, Strings, Pair, Vectors, Clears}
+use Rattle.core_step.specs.Plan.{way_of}
+use Rattle.vec_step.specs.Plan.{is_immediate, has_two_sources, spots_of}
 
 -- ---- operations
 unfoldable pub core_performed : CoreOp → Bool
@@ -62,20 +67,20 @@ core_performed Stmxcsr = true
 core_performed Clflush = true
 core_performed Cpuid = false
 core_performed Xgetbv = false
-core_performed Vzeroupper = false
-core_performed Vzeroall = false
+core_performed Vzeroupper = true
+core_performed Vzeroall = true
 
 unfoldable pub is_performed : Op → Bool
 is_performed (Core op) = core_performed op
 is_performed (Gpr op) = true
 is_performed (Bits op) = true
 is_performed (String op) = true
-is_performed (Lane op) = false
+is_performed (Lane op) = true
 is_performed (Cross op) = false
 is_performed (Width op) = false
 is_performed (Mac op) = false
 is_performed (Mask op) = false
-is_performed (Vector op) = false
+is_performed (Vector op) = true
 is_performed (Gather op) = false
 is_performed (Xsave op) = false
 
@@ -127,7 +132,72 @@ are_placed layout roles =
     has_place layout roles.destination
     && (has_place layout roles.source && (has_place layout roles.beside && has_place layout roles.also))
 
+-- ---- operands on vectors
+-- what stands there is a vector register, or memory in its place
+abbrev pub is_vector : Spot → Bool
+is_vector NoSpot = false
+is_vector Reg = false
+is_vector Rm = false
+is_vector Vvvv = false
+is_vector OpcodeReg = false
+is_vector AtRax = false
+is_vector Cl = false
+is_vector Memory = false
+is_vector Offset = false
+is_vector Immediate = false
+is_vector Relative = false
+is_vector One = false
+is_vector VectorMemory = false
+is_vector VectorReg = true
+is_vector VectorRm = true
+is_vector VectorVvvv = true
+is_vector VectorImmediate = false
+is_vector Xmm0 = false
+is_vector OpmaskReg = false
+is_vector OpmaskRm = false
+is_vector OpmaskVvvv = false
+
+-- what stands there is a general register or memory, whose bytes are the lowest of a vector
+abbrev pub is_scalar : Spot → Bool
+is_scalar NoSpot = false
+is_scalar Reg = true
+is_scalar Rm = true
+is_scalar Vvvv = false
+is_scalar OpcodeReg = false
+is_scalar AtRax = false
+is_scalar Cl = false
+is_scalar Memory = true
+is_scalar Offset = false
+is_scalar Immediate = false
+is_scalar Relative = false
+is_scalar One = false
+is_scalar VectorMemory = false
+is_scalar VectorReg = false
+is_scalar VectorRm = false
+is_scalar VectorVvvv = false
+is_scalar VectorImmediate = false
+is_scalar Xmm0 = false
+is_scalar OpmaskReg = false
+is_scalar OpmaskRm = false
+is_scalar OpmaskVvvv = false
+
+-- the destination and the second source have places, and so has the first, where it isn't the destination
+abbrev pub are_vectors_placed : Layout → Bool
+are_vectors_placed layout =
+    (is_vector (spots_of layout).destination || is_scalar (spots_of layout).destination)
+    && ((not (has_two_sources layout) || is_vector (spots_of layout).first)
+    && (is_vector (spots_of layout).second || (is_scalar (spots_of layout).second || is_immediate (spots_of layout).second)))
+
+-- a row on vectors has such operands, and lanes of 1, 2, 4 or 8 bytes
+abbrev pub suits : Way → Row → Bool
+suits Vectors row = are_vectors_placed (layout_of row.operands) && is_size (row.width / 8)
+suits Numbers row = true
+suits (Strings op) row = true
+suits Pair row = true
+suits (Clears clearing) row = true
+
 -- ---- rows
 pub record IsPerformed (row : Row) : Type 0 where
   pub operation : is_performed row.op ≡ true
   pub operands : are_placed (layout_of row.operands) (roles_of row.op (layout_of row.operands)) ≡ true
+  pub way : suits (way_of row.op) row ≡ true

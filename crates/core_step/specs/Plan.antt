@@ -1,5 +1,5 @@
 -- The three ways in which instructions are performed: what is accessed, and what comes of it.
-use Rattle.std.specs.Prelude.{ℕ, ◌+◌, ◌%◌, ◌^◌, List}
+use Rattle.std.specs.Prelude.{ℕ, ◌+◌, ◌%◌, ◌^◌, List, []}
 use Rattle.row_table.specs.declared.kinds.Row.{Row}
 use Rattle.row_table.specs.declared.kinds.Decoded.{Decoded}
 use Rattle.row_table.specs.declared.operations.Op.{Op}
@@ -9,15 +9,18 @@ use Rattle.row_table.specs.declared.operations.CoreOp.TheVariants.{Mov, Movsxd, 
 use Rattle.machine_state.specs.State.{State}
 use Rattle.machine_state.specs.declared.kinds.Access.{Access}
 use Rattle.core_step.specs.declared.ways.Way.{Way}
-use Rattle.core_step.specs.declared.ways.Way.TheVariants.{Numbers, Strings, Pair}
+use Rattle.core_step.specs.declared.ways.Way.TheVariants.{Numbers, Strings, Pair, Vectors, Clears as ClearsBytes}
 use Rattle.core_step.specs.declared.kinds.Plan.{Plan}
-use Rattle.core_step.specs.declared.kinds.Plan.TheVariants.{Plain, OnStrings, OnPair}
+use Rattle.core_step.specs.declared.kinds.Plan.TheVariants.{Plain, OnStrings, OnPair, OnVectors, Clears}
 use Rattle.core_step.specs.Operands.{instruction_of}
 use Rattle.core_step.specs.Access.{accesses_of}
 use Rattle.core_step.specs.Effect.{Processor, Effect}
 use Rattle.core_step.specs.Plain.{plain_effect}
 use Rattle.core_step.specs.Strings.{strings_of, strings_access, strings_effect}
 use Rattle.core_step.specs.Pair.{pair_of, pair_access, pair_effect}
+use Rattle.core_step.specs.Vectors.{vectors_of, vectors_effect, clears_effect}
+use Rattle.vec_step.specs.declared.kinds.Clearing.TheVariants.{Upper, All}
+use Rattle.vec_step.specs.Plan.{vector_access}
 
 -- ---- the way in which an operation is performed
 unfoldable pub core_way : CoreOp → Way
@@ -67,20 +70,20 @@ core_way Xgetbv = Numbers
 core_way Ldmxcsr = Numbers
 core_way Stmxcsr = Numbers
 core_way Clflush = Numbers
-core_way Vzeroupper = Numbers
-core_way Vzeroall = Numbers
+core_way Vzeroupper = ClearsBytes Upper
+core_way Vzeroall = ClearsBytes All
 
 abbrev pub way_of : Op → Way
 way_of (Core op) = core_way op
 way_of (Gpr op) = Numbers
 way_of (Bit op) = Numbers
 way_of (String op) = Strings op
-way_of (Lane op) = Numbers
+way_of (Lane op) = Vectors
 way_of (Cross op) = Numbers
 way_of (Width op) = Numbers
 way_of (Mac op) = Numbers
 way_of (Mask op) = Numbers
-way_of (Vector op) = Numbers
+way_of (Vector op) = Vectors
 way_of (Gather op) = Numbers
 way_of (Xsave op) = Numbers
 
@@ -89,6 +92,8 @@ abbrev pub plan_by : Way → Row → Decoded → (next : ℕ) → State → Plan
 plan_by Numbers row d next s = Plain (instruction_of row d next s)
 plan_by (Strings op) row d next s = OnStrings (strings_of op row d next s)
 plan_by Pair row d next s = OnPair (pair_of row d next s)
+plan_by Vectors row d next s = OnVectors (vectors_of row d next s)
+plan_by (ClearsBytes clearing) row d next s = Clears (record { clearing = clearing; next = next })
 
 -- where the next instruction stands
 abbrev pub next_of : (len : ℕ) → State → ℕ
@@ -103,9 +108,13 @@ abbrev pub plan_accesses : Plan → State → List Access
 plan_accesses (Plain i) s = accesses_of i
 plan_accesses (OnStrings i) s = strings_access i s.gprs
 plan_accesses (OnPair i) s = pair_access i
+plan_accesses (OnVectors i) s = vector_access i
+plan_accesses (Clears i) s = []
 
 -- what it does, by the state without memory and the bytes of memory
 abbrev pub effect_of : Plan → Processor → (ℕ → ℕ) → Effect
 effect_of (Plain i) p byte = plain_effect i p byte
 effect_of (OnStrings i) p byte = strings_effect i p byte
 effect_of (OnPair i) p byte = pair_effect i p byte
+effect_of (OnVectors i) p byte = vectors_effect i p byte
+effect_of (Clears i) p byte = clears_effect i p byte

@@ -1,17 +1,15 @@
 //! Where an instruction's operand in memory may stand.
 ghost use Rattle.std.specs.Prelude.{◌≡◌, ◌<◌, ◌&&◌};
 ghost use Rattle.machine_state.specs.Memory.{Swap};
-ghost use Rattle.core_step.specs.Operands.{row_size as size_of_row, bases_for};
-ghost use Rattle.core_step.specs.Address.{is_memory as names_memory, address_of};
+ghost use Rattle.core_step.specs.Address.{is_memory as names_memory};
+ghost use Rattle.core_step.specs.Vectors.{address_in};
 ghost use Rattle.core_step.specs.Plan.{next_of};
 ghost use Rattle.core_step.specs.Alignment.{vector_bytes as bytes_of_vector, breaks as breaks_rule, is_misaligned as is_misaligned_by};
 ghost use Rattle.core_step.specs.Fits.{RegistersFit};
 ghost use Rattle.core_step.specs.Machine.{state_of};
 
-use crate::addressing::{address, is_memory};
-use crate::kinds::StackUse;
+use crate::addressing::is_memory;
 use crate::machine::Machine;
-use crate::operands::row_size;
 use row_table::{Align, Decoded, Fields, Row};
 
 // How many bytes a vector has.
@@ -48,12 +46,9 @@ impl Machine {
     // Where ModRM's operand in memory stands.
     fn operand_address(&self, row: &Row, d: &Decoded, len: u8) -> u64
         requires { RegistersFit d.now.fields }
-        ensures { (w : Swap) → result ≡ address_of d.now.fields d.now.disp self.now.gprs
-            (bases_for StackUse.Aside (size_of_row row.now d.now.fields) (state_of self.now w) (next_of len (state_of self.now w))) }
+        ensures { (w : Swap) → result ≡ address_in row.now d.now (next_of len (state_of self.now w)) (state_of self.now w) }
     {
-        let next = self.rip.wrapping_add(len as u64);
-        let bases = self.bases(StackUse::Aside, row_size(row, &d.fields), next);
-        address(&d.fields, d.disp, &self.gprs, bases)
+        self.address_in(row, d, self.rip.wrapping_add(len as u64))
     }
 
     /// Whether ModRM names memory where the row's rule doesn't let it stand.

@@ -5,6 +5,7 @@ use crate::sizes::Size;
 use crate::strings::StringPlan;
 use gpr_flags::Flags;
 use row_table::Op;
+use vec_step::{Clearing, VectorPlan};
 
 /// Where an operation finds an operand: in its row's list, or at a place of its own.
 #[derive(Clone, Copy)]
@@ -152,6 +153,14 @@ pub struct Instruction {
     pub condition: u8,
 }
 
+/// VZEROUPPER or VZEROALL.
+#[derive(Clone, Copy)]
+pub struct ClearPlan {
+    pub clearing: Clearing,
+    /// Where the next instruction stands.
+    pub next: u64,
+}
+
 /// An instruction with its operands found, by the way in which it is performed.
 #[derive(Clone, Copy)]
 pub enum Plan {
@@ -161,6 +170,10 @@ pub enum Plan {
     OnStrings(StringPlan),
     /// Two registers are compared with memory and exchanged.
     OnPair(PairPlan),
+    /// Lanes of vectors are taken, and others put to their places.
+    OnVectors(VectorPlan),
+    /// Bytes of vector registers become 0.
+    Clears(ClearPlan),
 }
 
 /// What comes of an instruction whose accesses can be made.

@@ -14,6 +14,9 @@ ghost use Rattle.core_step.specs.Access.{accesses_of};
 ghost use Rattle.core_step.specs.Plain.{plain_effect, steps_after, gprs_left, byte_left, extended_left};
 ghost use Rattle.core_step.specs.Strings.{source_of, destination_of, strings_access, iterated, strings_effect};
 ghost use Rattle.core_step.specs.Pair.{pair_bytes, pair_effect};
+ghost use Rattle.core_step.specs.Vectors.{vectors_effect, clears_effect};
+ghost use Rattle.vec_step.specs.Plan.{vector_access};
+ghost use Rattle.vec_step.specs.Fits.{PlanFits as VectorPlanFits};
 ghost use Rattle.core_step.specs.Plan.{plan_accesses, effect_of};
 ghost use Rattle.core_step.specs.Pages.{TouchesAtMost, fetch_accesses};
 ghost use Rattle.core_step.specs.Fits.{InstructionFits, PlanFits};
@@ -25,7 +28,7 @@ ghost use Rattle.core_step.specs.Machine.{IsWhole, IsLeft, IsLocal, IsFramed, ac
 use crate::acted::Acted;
 use crate::fetch_cache::FetchCache;
 use crate::fetching::{Fetched, fetch_outcome, read_run};
-use crate::kinds::{Instruction, Outcome, Plan};
+use crate::kinds::{ClearPlan, Instruction, Outcome, Plan};
 use crate::pair::PairPlan;
 use crate::results::outcome;
 use crate::strings::StringPlan;
@@ -36,6 +39,7 @@ use guest_pages::Pages;
 use machine_state::Kind;
 use row_table::{Decoded, row};
 use vec_file::VecFile;
+use vec_step::{VectorPlan, clear, perform as perform_vectors};
 use x_decode::{LIMIT, decode};
 
 /// The processor with its memory: general registers, flags, instruction pointer, extended state, pages, the bases of the
@@ -137,6 +141,8 @@ impl Machine {
             Plan::Plain(i) => self.complete(i),
             Plan::OnStrings(i) => self.pass_strings(i),
             Plan::OnPair(i) => self.exchange(i),
+            Plan::OnVectors(i) => self.apply(i),
+            Plan::Clears(i) => self.clear(i),
         }
     }
 
@@ -190,6 +196,34 @@ impl Machine {
         i.exchange_memory(found, &self.gprs, &mut self.pages);
         i.exchange_registers(found, &mut self.gprs);
         self.flags.zf = equal;
+        self.move_on(i.next);
+        Acted::Done
+    }
+
+    // Performs an instruction on vectors whose accesses can be made.
+    fn apply(&mut self, i: &VectorPlan) -> Acted
+        requires fits { VectorPlanFits i.now }
+        requires ready { walk (table_of self.old.pages) (vector_access i.now) ≡ None }
+        requires room { self.old.steps < 2 ^ 64 - 1 }
+        ensures { IsLeft self.old self.new result (vectors_effect i.now) }
+    {
+        perform_vectors(
+            i,
+            &mut self.gprs,
+            &mut self.flags,
+            &mut self.vec,
+            &mut self.pages,
+        );
+        self.move_on(i.next);
+        Acted::Done
+    }
+
+    // Performs VZEROUPPER or VZEROALL.
+    fn clear(&mut self, i: &ClearPlan) -> Acted
+        requires room { self.old.steps < 2 ^ 64 - 1 }
+        ensures { IsLeft self.old self.new result (clears_effect i.now) }
+    {
+        clear(&mut self.vec, i.clearing);
         self.move_on(i.next);
         Acted::Done
     }

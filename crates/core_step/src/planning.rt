@@ -5,11 +5,15 @@ ghost use Rattle.core_step.specs.Operands.{rsp_for, instruction_by as instructio
 ghost use Rattle.core_step.specs.Fits.{RegistersFit, InstructionFits, PlanFits};
 ghost use Rattle.core_step.specs.Strings.{strings_of};
 ghost use Rattle.core_step.specs.Pair.{pair_of};
+ghost use Rattle.core_step.specs.Vectors.{address_in, memory_in, places_of, vectors_of};
 ghost use Rattle.core_step.specs.Plan.{plan_of};
+ghost use Rattle.core_step.specs.Performed.{IsPerformed};
+ghost use Rattle.vec_units.specs.Form.{IsVectorRow};
+ghost use Rattle.vec_step.specs.Fits.{PlanFits as VectorPlanFits};
 ghost use Rattle.core_step.specs.Machine.{state_of};
 
-use crate::addressing::{address, segment_base};
-use crate::kinds::{Bases, Instruction, Plan, Roles, StackUse};
+use crate::addressing::{address, is_memory, reg, rm, segment_base};
+use crate::kinds::{Bases, ClearPlan, Instruction, Plan, Roles, StackUse};
 use crate::machine::Machine;
 use crate::operands::{
     destination_size, operation, part_size, row_size, rsp_in_addresses, stack_place,
@@ -21,6 +25,7 @@ use crate::sizes::Size;
 use crate::strings::{Repeat, StringPlan};
 use crate::ways::Way;
 use row_table::{Decoded, Layout, Op, Row, StringOp, layout};
+use vec_step::{Places, VectorPlan, plan};
 
 impl Machine {
     // What addresses are made of.
@@ -143,11 +148,58 @@ impl Machine {
         }
     }
 
+    // The address that ModRM names, in an instruction that leaves the stack alone.
+    pub(crate) fn address_in(&self, row: &Row, d: &Decoded, next: u64) -> u64
+        requires { RegistersFit d.now.fields }
+        ensures { (w : Swap) → result ≡ address_in row.now d.now next (state_of self.now w) }
+    {
+        let bases = self.bases(StackUse::Aside, row_size(row, &d.fields), next);
+        address(&d.fields, d.disp, &self.gprs, bases)
+    }
+
+    // The same, if ModRM names memory.
+    fn memory_in(&self, row: &Row, d: &Decoded, next: u64) -> Option<u64>
+        requires { RegistersFit d.now.fields }
+        ensures { (w : Swap) → result ≡ memory_in row.now d.now next (state_of self.now w) }
+    {
+        if is_memory(&d.fields) {
+            Some(self.address_in(row, d, next))
+        } else {
+            None
+        }
+    }
+
+    // What ModRM and vvvv name.
+    fn places(&self, row: &Row, d: &Decoded, next: u64) -> Places
+        requires { RegistersFit d.now.fields }
+        ensures { (w : Swap) → result ≡ places_of row.now d.now next (state_of self.now w) }
+    {
+        Places {
+            reg: reg(&d.fields),
+            vvvv: d.fields.v,
+            rm: rm(&d.fields),
+            memory: self.memory_in(row, d, next),
+        }
+    }
+
+    // The instruction on vectors of a row and its fields.
+    #[tactic(auto, unfolding(crate::specs::Vectors::vectors_of))]
+    fn on_vectors(&self, row: &Row, d: &Decoded, next: u64) -> VectorPlan
+        requires registers { RegistersFit d.now.fields }
+        requires row { IsVectorRow row.now }
+        ensures is { (w : Swap) → result ≡ vectors_of row.now d.now next (state_of self.now w) }
+        ensures fits { VectorPlanFits result }
+    {
+        let places = self.places(row, d, next);
+        plan(row, &d.fields, &places, next, &self.vec)
+    }
+
     // The instruction of a row and its fields, by the way in which it is performed.
     #[inline(never)]
     #[tactic(auto, unfolding(crate::specs::Plan::plan_of))]
     pub(crate) fn plan_for(&self, row: &Row, d: &Decoded, len: u8) -> Plan
-        requires { RegistersFit d.now.fields }
+        requires registers { RegistersFit d.now.fields }
+        requires performed { IsPerformed row.now }
         ensures is { (w : Swap) → result ≡ plan_of row.now d.now len (state_of self.now w) }
         ensures fits { PlanFits result }
     {
@@ -156,6 +208,8 @@ impl Machine {
             Way::Numbers => Plan::Plain(self.instruction(row, d, next)),
             Way::Strings(op) => Plan::OnStrings(self.on_strings(op, row, d, next)),
             Way::Pair => Plan::OnPair(self.on_pair(row, d, next)),
+            Way::Vectors => Plan::OnVectors(self.on_vectors(row, d, next)),
+            Way::Clears(clearing) => Plan::Clears(ClearPlan { clearing, next }),
         }
     }
 }

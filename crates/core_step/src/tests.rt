@@ -1,4 +1,5 @@
 mod processor;
+mod vectors;
 
 use crate::{Acted, Fault, FetchCache, Fetched, Flags, Gprs, Machine, Pages, Perms, VecFile};
 use machine_state::{Kind, PAGE_SIZE};

@@ -7,6 +7,7 @@ ghost use Rattle.guest_pages.specs.Walk.{walk as walk_along};
 ghost use Rattle.core_step.specs.Access.{operand_access, kind_of, accesses_of, access_fault, acted_by};
 ghost use Rattle.core_step.specs.Strings.{strings_access};
 ghost use Rattle.core_step.specs.Pair.{pair_access};
+ghost use Rattle.core_step.specs.Fits.{PlanFits};
 ghost use Rattle.core_step.specs.Plan.{plan_accesses};
 ghost use Rattle.core_step.specs.Machine.{state_of};
 
@@ -20,6 +21,7 @@ use arrayvec::ArrayVec;
 use gpr_flags::{Fault, Gprs};
 use machine_state::{Access, Kind, Miss, Stop};
 use string_unit::{accesses as iteration_accesses, destination_place, source_place};
+use vec_step::walk as walk_vectors;
 
 /// The kind of the access of a destination.
 fn kind_for(destination: Use) -> Kind
@@ -84,24 +86,20 @@ fn pair_accesses(i: &PairPlan) -> ArrayVec<Access, 2>
 }
 
 impl Machine {
-    // The access list of an instruction.
-    fn accesses(&self, plan: &Plan) -> ArrayVec<Access, 2>
-        ensures { (w : Swap) → result.items ≡ plan_accesses plan.now (state_of self.now w) }
-    {
-        match plan {
-            Plan::Plain(i) => operand_accesses(i),
-            Plan::OnStrings(i) => string_accesses(i, &self.gprs),
-            Plan::OnPair(i) => pair_accesses(i),
-        }
-    }
-
     /// Walks along the access list of an instruction.
     pub(crate) fn walk(&self, plan: &Plan) -> Result<(), Stop>
+        requires { PlanFits plan.now }
         ensures { (w : Swap) → MatchResult result
             (λ _. walk_along (table_of self.now.pages) (plan_accesses plan.now (state_of self.now w)) ≡ None)
             (λ stop. walk_along (table_of self.now.pages) (plan_accesses plan.now (state_of self.now w)) ≡ Some stop) }
     {
-        self.pages.walk(&self.accesses(plan))
+        match plan {
+            Plan::Plain(i) => self.pages.walk(&operand_accesses(i)),
+            Plan::OnStrings(i) => self.pages.walk(&string_accesses(i, &self.gprs)),
+            Plan::OnPair(i) => self.pages.walk(&pair_accesses(i)),
+            Plan::OnVectors(i) => walk_vectors(i, &self.pages),
+            Plan::Clears(_) => self.pages.walk(&[]),
+        }
     }
 }
 

@@ -3,6 +3,7 @@ ghost use Rattle.std.specs.Prelude.{◌≡◌};
 ghost use Rattle.core_step.specs.Plan.{core_way, way_of};
 
 use row_table::{CoreOp, Op, StringOp};
+use vec_step::Clearing;
 
 /// The way in which an instruction is performed.
 #[derive(Clone, Copy)]
@@ -13,6 +14,10 @@ pub enum Way {
     Strings(StringOp),
     /// Two registers are compared with memory and exchanged.
     Pair,
+    /// Lanes of vectors are taken, and others put to their places.
+    Vectors,
+    /// Bytes of vector registers become 0.
+    Clears(Clearing),
 }
 
 impl Way {
@@ -23,6 +28,8 @@ impl Way {
     {
         match op {
             CoreOp::Cmpxchg8b => Way::Pair,
+            CoreOp::Vzeroupper => Way::Clears(Clearing::Upper),
+            CoreOp::Vzeroall => Way::Clears(Clearing::All),
             CoreOp::Mov
             | CoreOp::Movsxd
             | CoreOp::Movzx
@@ -67,9 +74,7 @@ impl Way {
             | CoreOp::Xgetbv
             | CoreOp::Ldmxcsr
             | CoreOp::Stmxcsr
-            | CoreOp::Clflush
-            | CoreOp::Vzeroupper
-            | CoreOp::Vzeroall => Way::Numbers,
+            | CoreOp::Clflush => Way::Numbers,
         }
     }
 
@@ -80,14 +85,13 @@ impl Way {
         match op {
             Op::Core(op) => Way::of_core(op),
             Op::String(op) => Way::Strings(op),
+            Op::Lane(_) | Op::Vector(_) => Way::Vectors,
             Op::Gpr(_)
             | Op::Bit(_)
-            | Op::Lane(_)
             | Op::Cross(_)
             | Op::Width(_)
             | Op::Mac(_)
             | Op::Mask(_)
-            | Op::Vector(_)
             | Op::Gather(_)
             | Op::Xsave(_) => Way::Numbers,
         }

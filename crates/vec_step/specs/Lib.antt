@@ -1,3 +1,4 @@
 pub mod Plan
 pub mod Left
 pub mod Fits
+pub mod Clear

@@ -60,6 +60,14 @@ pub enum Target {
     Nowhere,
 }
 
+/// Which bytes of vector registers 0 to 15 become 0.
+#[derive(Clone, Copy)]
+pub enum Clearing {
+    /// Those from 16 up.
+    Upper,
+    All,
+}
+
 /// A vector instruction with its operands found.
 #[derive(Clone, Copy)]
 pub struct VectorPlan {

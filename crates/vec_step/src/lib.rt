@@ -1,12 +1,14 @@
 //! Vector instructions: their operands, what they access, and what they leave.
 #![tactic(auto)]
 
+mod clearing;
 mod kinds;
 mod performing;
 mod places;
 mod planning;
 
-pub use kinds::{Places, Source, Span, Spots, Target, VectorPlan};
+pub use clearing::clear;
+pub use kinds::{Clearing, Places, Source, Span, Spots, Target, VectorPlan};
 pub use performing::{perform, walk};
 pub use planning::plan;
 

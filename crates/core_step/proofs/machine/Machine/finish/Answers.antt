@@ -21,3 +21,8 @@ pub exchange-requires-clause-ready : goal.exchange-requires-clause-ready
 exchange-requires-clause-ready c =
     let P : Plan → Type 0 = λ plan. walk (table_of c.args.self.now.pages) (plan_accesses plan (state_of c.args.self.now (λ page. []))) ≡ None in
     pair-free (table_of c.args.self.now.pages) c.in-OnPair.i (subst P c.in-OnPair.is (c.requires.ready (λ page. [])))
+
+pub apply-requires-clause-ready : goal.apply-requires-clause-ready
+apply-requires-clause-ready c =
+    let P : Plan → Type 0 = λ plan. walk (table_of c.args.self.now.pages) (plan_accesses plan (state_of c.args.self.now (λ page. []))) ≡ None in
+    subst P c.in-OnVectors.is (c.requires.ready (λ page. []))

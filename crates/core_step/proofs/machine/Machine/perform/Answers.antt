@@ -11,7 +11,8 @@ use Rattle.core_step.specs.declared.acted.Acted.{Acted}
 use Rattle.core_step.specs.declared.acted.Acted.TheVariants.{Need}
 use Rattle.core_step.specs.declared.kinds.Plan.{Plan}
 use Rattle.machine_state.specs.Memory.{Swap}
-use Rattle.core_step.specs.Fits.{RegistersFit}
+use Rattle.core_step.specs.Fits.{RegistersFit, PlanFits}
+use Rattle.core_step.specs.Pages.{TouchesAtMost}
 use Rattle.core_step.specs.Effect.{After}
 use Rattle.core_step.specs.Plan.{plan_of, plan_accesses, effect_of}
 use Rattle.core_step.specs.Machine.{state_of, processor_in, IsWhole, accesses, needed}
@@ -19,7 +20,7 @@ use Rattle.core_step.proofs.Steps.{performed-misaligned, accesses-misaligned, ac
 use Rattle.core_step.proofs.Performed.{IsDefined, row-performed, plan-defined, miss-defined}
 use Rattle.core_step.proofs.Local.{local}
 use Rattle.core_step.proofs.Frame.{framed}
-use Rattle.core_step.proofs.PageCounts.{accesses-touch}
+use Rattle.core_step.proofs.PageCounts.{plan-touch, none-touch}
 use Rattle.core_step.proofs.machine.Machine.perform.Goals as goal
 
 -- the registers of an instruction's fields
@@ -35,8 +36,11 @@ row-row-requires c = decoded-row c.args.d.now.fields c.args.d.now c.requires.spe
 pub is_misaligned-requires : goal.is_misaligned-requires
 is_misaligned-requires c = fits-from c.args.d.now.fields (decoded-registers c.args.d.now.fields c.args.d.now c.requires.spells)
 
-pub plan_for-plan-requires : goal.plan_for-plan-requires
-plan_for-plan-requires c = fits-from c.args.d.now.fields (decoded-registers c.args.d.now.fields c.args.d.now c.requires.spells)
+pub plan_for-plan-requires-clause-registers : goal.plan_for-plan-requires-clause-registers
+plan_for-plan-requires-clause-registers c = fits-from c.args.d.now.fields (decoded-registers c.args.d.now.fields c.args.d.now c.requires.spells)
+
+pub plan_for-plan-requires-clause-performed : goal.plan_for-plan-requires-clause-performed
+plan_for-plan-requires-clause-performed c = row-performed c.args.d.now.row c.row-row.result c.row-row.ensures
 
 -- ---- alignment is broken
 pub returns-then-is_misaligned-clause-whole : goal.returns-then-is_misaligned-clause-whole
@@ -96,7 +100,10 @@ returns-in-Ok-clause-need c w slot =
 
 -- ---- what holds of each instruction
 pub returns-then-is_misaligned-clause-few : goal.returns-then-is_misaligned-clause-few
-returns-then-is_misaligned-clause-few c w = accesses-touch c.args.d.now c.args.len (state_of c.args.self.now w)
+returns-then-is_misaligned-clause-few c w =
+    subst (TouchesAtMost 4)
+    (sym (accesses-misaligned c.args.d.now c.args.len (state_of c.args.self.now w) c.row-row.result c.row-row.ensures
+    (sym (c.is_misaligned.ensures w) ∙ c.if-is_misaligned.true))) none-touch
 
 pub returns-then-is_misaligned-clause-local : goal.returns-then-is_misaligned-clause-local
 returns-then-is_misaligned-clause-local c w = local c.args.d.now c.args.len (state_of c.args.self.now w)
@@ -105,7 +112,11 @@ pub returns-then-is_misaligned-clause-framed : goal.returns-then-is_misaligned-c
 returns-then-is_misaligned-clause-framed c w = framed c.args.d.now c.args.len (state_of c.args.self.now w)
 
 pub returns-in-Err-clause-few : goal.returns-in-Err-clause-few
-returns-in-Err-clause-few c w = accesses-touch c.args.d.now c.args.len (state_of c.args.self.now w)
+returns-in-Err-clause-few c w =
+    let s = state_of c.args.self.now w in
+    subst (TouchesAtMost 4)
+    (sym (accesses-aligned c.args.d.now c.args.len s c.row-row.result c.row-row.ensures (sym (c.is_misaligned.ensures w) ∙ c.if-is_misaligned.false)))
+    (plan-touch c.row-row.result c.args.d.now c.args.len s (subst PlanFits (c.plan_for-plan.ensures.is w) c.plan_for-plan.ensures.fits))
 
 pub returns-in-Err-clause-local : goal.returns-in-Err-clause-local
 returns-in-Err-clause-local c w = local c.args.d.now c.args.len (state_of c.args.self.now w)
@@ -114,7 +125,11 @@ pub returns-in-Err-clause-framed : goal.returns-in-Err-clause-framed
 returns-in-Err-clause-framed c w = framed c.args.d.now c.args.len (state_of c.args.self.now w)
 
 pub returns-in-Ok-clause-few : goal.returns-in-Ok-clause-few
-returns-in-Ok-clause-few c w = accesses-touch c.args.d.now c.args.len (state_of c.args.self.now w)
+returns-in-Ok-clause-few c w =
+    let s = state_of c.args.self.now w in
+    subst (TouchesAtMost 4)
+    (sym (accesses-aligned c.args.d.now c.args.len s c.row-row.result c.row-row.ensures (sym (c.is_misaligned.ensures w) ∙ c.if-is_misaligned.false)))
+    (plan-touch c.row-row.result c.args.d.now c.args.len s (subst PlanFits (c.plan_for-plan.ensures.is w) c.plan_for-plan.ensures.fits))
 
 pub returns-in-Ok-clause-local : goal.returns-in-Ok-clause-local
 returns-in-Ok-clause-local c w = local c.args.d.now c.args.len (state_of c.args.self.now w)

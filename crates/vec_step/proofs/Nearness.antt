@@ -1,0 +1,138 @@
+-- A vector instruction accesses 64 bytes at most from one address on.
+use Rattle.std.proofs.Common.{◌≡◌, ℕ, zero, suc, ◌+◌, ◌*◌, ◌%◌, ◌^◌, ◌<◌, ◌≤◌, ◌⊎◌, inl, inr, Bool, true, false, cond, List, [], ◌∷◌, ◌++◌, Option, Some, None, refl, sym, subst, arith}
+use Rattle.std.specs.Prelude.{⊤}
+use Rattle.std.specs.List.{All}
+use Rattle.std.proofs.lemmas.Bool.{cases_lt}
+use Rattle.std.proofs.lemmas.List.Elements.{All-nil, All-cons, All-append}
+use Rattle.machine_state.specs.declared.kinds.Kind.{Kind}
+use Rattle.machine_state.specs.declared.kinds.Kind.TheVariants.{Read, Write}
+use Rattle.machine_state.specs.declared.kinds.Access.{Access}
+use Rattle.gpr_flags.specs.Numbers.{has_bit}
+use Rattle.row_table.specs.declared.kinds.Row.{Row}
+use Rattle.row_table.specs.declared.kinds.Fields.{Fields}
+use Rattle.row_table.specs.declared.kinds.Spot.{Spot}
+use Rattle.row_table.specs.declared.kinds.Spot.TheVariants.{Rm, Memory as InMemory, VectorRm}
+use Rattle.row_table.specs.Letters.{layout_of}
+use Rattle.masked_memory.specs.Lanes.{lane_place, lane_access, lane_accesses}
+use Rattle.vec_units.specs.declared.forms.Form.{Form}
+use Rattle.vec_units.specs.Form.{form_of}
+use Rattle.vec_step.specs.declared.kinds.Places.{Places}
+use Rattle.vec_step.specs.declared.kinds.Span.{Span}
+use Rattle.vec_step.specs.declared.kinds.Source.{Source}
+use Rattle.vec_step.specs.declared.kinds.Source.TheVariants.{Register as FromRegister, General as FromGeneral, Count, Memory as FromMemory, Whole, Nothing}
+use Rattle.vec_step.specs.declared.kinds.Target.{Target}
+use Rattle.vec_step.specs.declared.kinds.Target.TheVariants.{Register as ToRegister, Memory as ToMemory, Mask as ToMask, General as ToGeneral, Flags as ToFlags, Nowhere}
+use Rattle.vec_step.specs.declared.kinds.VectorPlan.{VectorPlan}
+use Rattle.vec_step.specs.Fits.{PlanFits, SourceFits, TargetFits}
+use Rattle.vec_step.specs.Plan.{gives_flags, mask_in, spots_of, memory_source, source_or, source_in, target_or, target_in, target_at, vector_plan, source_accesses, target_accesses, vector_access}
+
+-- ---- where the operands are
+-- an operand in memory is at this address
+abbrev SourceAt : ℕ → Source → Type 0
+SourceAt addr (FromMemory m) = m.addr ≡ addr
+SourceAt addr (Whole other len) = other ≡ addr
+SourceAt addr (FromRegister n) = ⊤
+SourceAt addr (FromGeneral n) = ⊤
+SourceAt addr (Count n) = ⊤
+SourceAt addr Nothing = ⊤
+
+abbrev TargetAt : ℕ → Target → Type 0
+TargetAt addr (ToMemory m) = m.addr ≡ addr
+TargetAt addr (ToRegister n) = ⊤
+TargetAt addr (ToMask n) = ⊤
+TargetAt addr (ToGeneral n) = ⊤
+TargetAt addr ToFlags = ⊤
+TargetAt addr Nowhere = ⊤
+
+whole_or-at : (addr len : ℕ) (whole : Bool) (m : Span) → m.addr ≡ addr → SourceAt addr (cond whole (Whole addr len) (FromMemory m))
+whole_or-at addr len true m is = refl
+whole_or-at addr len false m is = is
+
+flags_or-at : (addr : ℕ) (flags : Bool) (target : Target) → TargetAt addr target → TargetAt addr (cond flags ToFlags target)
+flags_or-at addr true target is = tt
+flags_or-at addr false target is = is
+
+-- where the memory that an instruction names is at this address, if it names memory
+module _ (addr : ℕ) (row : Row) (f : Form) (mask : ℕ) where
+  source_or-at : (register : Source) (memory : Option ℕ) → ((a : ℕ) → memory ≡ Some a → a ≡ addr) → SourceAt addr register
+      → SourceAt addr (source_or register row f mask memory)
+  source_or-at register None is other = other
+  source_or-at register (Some a) is other =
+      subst (λ (x : ℕ). SourceAt addr (memory_source row f mask x)) (sym (is a refl)) (whole_or-at addr _ row.whole _ refl)
+
+  source_in-at : (spot : Spot) (p : Places) → ((a : ℕ) → p.memory ≡ Some a → a ≡ addr) → SourceAt addr (source_in spot row f mask p)
+  unfolding source_in
+  source_in-at VectorRm p is = source_or-at _ p.memory is tt
+  source_in-at Rm p is = source_or-at _ p.memory is tt
+  source_in-at InMemory p is = source_or-at Nothing p.memory is tt
+  source_in-at spot p is = tt
+
+  target_or-at : (register : Target) (memory : Option ℕ) → ((a : ℕ) → memory ≡ Some a → a ≡ addr) → TargetAt addr register
+      → TargetAt addr (target_or register row f mask memory)
+  target_or-at register None is other = other
+  target_or-at register (Some a) is other = is a refl
+
+  target_in-at : (spot : Spot) (p : Places) → ((a : ℕ) → p.memory ≡ Some a → a ≡ addr) → TargetAt addr (target_in spot row f mask p)
+  unfolding target_in
+  target_in-at VectorRm p is = target_or-at _ p.memory is tt
+  target_in-at Rm p is = target_or-at _ p.memory is tt
+  target_in-at InMemory p is = target_or-at Nowhere p.memory is tt
+  target_in-at spot p is = tt
+
+-- ---- accesses from an address on
+-- each byte of an access is one of the 64 from this address on, modulo 2^64
+abbrev pub IsNear : ℕ → Access → Type 0
+IsNear addr access = (at : ℕ) → access.addr ≤ at → at < access.addr + access.len → ((addr ≤ at) × (at < addr + 64)) ⊎ (at < 64)
+
+lane_near : (kind : Kind) (addr offset w : ℕ) → addr < 2 ^ 64 → offset + w ≤ 64
+    → IsNear addr (record { kind = kind; addr = (addr + offset) % 2 ^ 64; len = w })
+lane_near kind addr offset w below within at low high = elim (cases_lt (addr + offset) (2 ^ 64)) [
+  | inl straight ↦ inl (omega arith, omega arith)
+  | inr around ↦ inr (omega arith)
+]
+
+one_near : (has : Bool) (kind : Kind) (addr i w : ℕ) → addr < 2 ^ 64 → i * w + w ≤ 64
+    → All (IsNear addr) (cond has (record { kind = kind; addr = lane_place addr w i; len = w } ∷ []) [])
+one_near true kind addr i w below within = All-cons (IsNear addr) _ [] (lane_near kind addr (i * w) w below within) (All-nil (IsNear addr))
+one_near false kind addr i w below within = All-nil (IsNear addr)
+
+lanes_near : (kind : Kind) (addr w mask n : ℕ) → addr < 2 ^ 64 → n * w ≤ 64 → All (IsNear addr) (lane_accesses kind addr w mask n)
+unfolding lane_accesses lane_access
+lanes_near kind addr w mask zero below within = All-nil (IsNear addr)
+lanes_near kind addr w mask (suc n) below within =
+    let last : n * w + w ≤ 64 = omega (arith, within) in
+    All-append (IsNear addr) (lane_accesses kind addr w mask n) (lane_access kind addr w mask n)
+    (lanes_near kind addr w mask n below (omega (arith, last))) (one_near (has_bit mask n) kind addr n w below last)
+
+source_near : (source : Source) (addr : ℕ) → addr < 2 ^ 64 → SourceFits source → SourceAt addr source
+    → All (IsNear addr) (source_accesses source)
+source_near (FromMemory m) addr below fits is = rw is (lanes_near Read addr m.width m.mask m.lanes below fits.most)
+source_near (Whole other len) addr below fits is =
+    subst (λ (x : ℕ). All (IsNear addr) (source_accesses (Whole x len))) (sym is)
+    (All-cons (IsNear addr) (record { kind = Read; addr = addr; len = len }) [] (λ at low high. inl (low, omega (arith, fits))) (All-nil (IsNear addr)))
+source_near (FromRegister n) addr below fits is = All-nil (IsNear addr)
+source_near (FromGeneral n) addr below fits is = All-nil (IsNear addr)
+source_near (Count n) addr below fits is = All-nil (IsNear addr)
+source_near Nothing addr below fits is = All-nil (IsNear addr)
+
+target_near : (target : Target) (addr : ℕ) → addr < 2 ^ 64 → TargetFits target → TargetAt addr target
+    → All (IsNear addr) (target_accesses target)
+target_near (ToMemory m) addr below fits is = rw is (lanes_near Write addr m.width m.mask m.lanes below fits.most)
+target_near (ToRegister n) addr below fits is = All-nil (IsNear addr)
+target_near (ToMask n) addr below fits is = All-nil (IsNear addr)
+target_near (ToGeneral n) addr below fits is = All-nil (IsNear addr)
+target_near ToFlags addr below fits is = All-nil (IsNear addr)
+target_near Nowhere addr below fits is = All-nil (IsNear addr)
+
+-- ---- the whole
+pub vector-near : (row : Row) (fields : Fields) (p : Places) (next : ℕ) (k : List ℕ) (addr : ℕ) → addr < 2 ^ 64
+    → ((a : ℕ) → p.memory ≡ Some a → a ≡ addr) → PlanFits (vector_plan row fields p next k)
+    → All (IsNear addr) (vector_access (vector_plan row fields p next k))
+unfolding vector_access vector_plan
+vector-near row fields p next k addr below is fits =
+    All-append (IsNear addr) _ _
+    (source_near _ addr below fits.second
+    (source_in-at addr row (form_of row fields) (mask_in fields k) (spots_of (layout_of row.operands)).second p is))
+    (target_near _ addr below fits.target
+    (flags_or-at addr (gives_flags row.op) _
+    (target_in-at addr row (form_of row fields) (mask_in fields k) (spots_of (layout_of row.operands)).destination p is)))
