@@ -23,7 +23,8 @@ use Rattle.vec_step.specs.declared.kinds.Target.{Target}
 use Rattle.vec_step.specs.declared.kinds.Target.TheVariants.{Register as ToRegister, Memory as ToMemory, Mask as ToMask, General as ToGeneral, Flags as ToFlags, Nowhere}
 use Rattle.vec_step.specs.declared.kinds.VectorPlan.{VectorPlan}
 use Rattle.vec_step.specs.Plan.{vector_access, source_accesses, target_accesses}
-use Rattle.vec_step.specs.Left.{padded, zmm_in, second_of, value_of, mask_of, number_of, extended_at, gprs_at, flags_at, byte_at, extended_left, gprs_left, flags_left, byte_left}
+use Rattle.num_lanes.specs.Setters.{zmm_in}
+use Rattle.vec_step.specs.Left.{padded, second_of, value_of, mask_of, number_of, extended_at, gprs_at, flags_at, byte_at, extended_left, gprs_left, flags_left, byte_left}
 use Rattle.vec_step.proofs.Accesses.{All_before, All_behind, written_outside, written_same}
 
 -- what holds of the accesses of n lanes holds of that of each
