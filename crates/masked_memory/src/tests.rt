@@ -3,6 +3,7 @@ use crate::*;
 use guest_pages::{Pages, Perms};
 use machine_state::{Kind, Miss};
 use num_lanes::Vec64;
+use std::alloc::Global;
 use std::process::Abort;
 use std::test::Fail;
 
@@ -14,8 +15,8 @@ const NUMBERS: [u8; 16] = [
 ];
 
 /// A page of data, one that can only be read behind the next, and none between them.
-fn pages_of(rt: &HostRuntime) -> Result<Pages, Fail> {
-    let mut pages = Pages::new(rt.alloc(), 8, 16)?;
+fn pages_of(rt: &impl Abort, alloc: Global) -> Result<Pages, Fail> {
+    let mut pages = Pages::new(alloc, 8, 16)?;
     assert_eq!(rt; pages.map_page(0x10_0000, Perms(3)), Ok(()));
     assert_eq!(rt; pages.map_page(0x10_2000, Perms(1)), Ok(()));
     assert_eq!(rt; pages.write(LAST, &NUMBERS), Ok(()));
@@ -111,14 +112,14 @@ fn wrong_load(pages: &Pages, rows: &[Load]) -> Option<usize> {
 
 #[test]
 fn only_lanes_of_the_mask_are_loaded(rt: HostRuntime) -> Result<(), Fail> {
-    let pages = pages_of(&rt)?;
+    let pages = pages_of(&rt, rt.alloc())?;
     assert_eq!(rt; wrong_load(&pages, &LOADS), None);
     Ok(())
 }
 
 #[test]
 fn store_leaves_lanes_out_of_the_mask(rt: HostRuntime) -> Result<(), Fail> {
-    let mut pages = pages_of(&rt)?;
+    let mut pages = pages_of(&rt, rt.alloc())?;
     let from = [0x5A; 64];
     assert_eq!(rt;
         store_lanes(&mut pages, LAST + 4, 4, 4, 0b101, &from),
@@ -138,7 +139,7 @@ fn store_leaves_lanes_out_of_the_mask(rt: HostRuntime) -> Result<(), Fail> {
 
 #[test]
 fn store_that_misses_a_lane_writes_none(rt: HostRuntime) -> Result<(), Fail> {
-    let mut pages = pages_of(&rt)?;
+    let mut pages = pages_of(&rt, rt.alloc())?;
     let from = [0x5A; 64];
     assert_eq!(rt;
         store_lanes(&mut pages, LAST + 8, 8, 2, 0b11, &from),
