@@ -390,7 +390,16 @@ fn operands_have_their_sizes(rt: HostRuntime) {
 
 #[test]
 fn vector_instructions_are_seen_as_the_assembler_writes_them(rt: HostRuntime) {
-    for (bytes, want) in vectors::vector_bytes() {
+    for (bytes, want) in vectors::arithmetic_bytes() {
+        assert_eq!(rt; vex_told_of(bytes), Some(*want), "at {bytes:?}");
+    }
+    for (bytes, want) in vectors::shift_and_logic_bytes() {
+        assert_eq!(rt; vex_told_of(bytes), Some(*want), "at {bytes:?}");
+    }
+    for (bytes, want) in vectors::whole_move_bytes() {
+        assert_eq!(rt; vex_told_of(bytes), Some(*want), "at {bytes:?}");
+    }
+    for (bytes, want) in vectors::element_move_bytes() {
         assert_eq!(rt; vex_told_of(bytes), Some(*want), "at {bytes:?}");
     }
 }

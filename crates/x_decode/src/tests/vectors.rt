@@ -69,9 +69,9 @@ pub(super) fn vector_name(op: VectorOp) -> &'static str {
     }
 }
 
-/// Instructions, and what is seen in them.
+/// Sums, minima, averages, signs, and compares, and what is seen in them.
 #[rattlefmt::skip]
-static VECTOR_BYTES: [(&'static [u8], VexTold); 129] = [
+static ARITHMETIC: [(&'static [u8], VexTold); 38] = [
     // paddb %xmm2,%xmm1
     (&[0x66, 0x0f, 0xfc, 0xca], ("padd", 8, 4, 0, 0)),
     // paddq 0x10(%r9),%xmm9
@@ -148,6 +148,11 @@ static VECTOR_BYTES: [(&'static [u8], VexTold); 129] = [
     (&[0x66, 0x0f, 0x38, 0x17, 0xca], ("ptest", 64, 5, 0, 0)),
     // vptest (%rax),%ymm1
     (&[0xc4, 0xe2, 0x7d, 0x17, 0x08], ("ptest", 64, 5, 0, 0)),
+];
+
+/// Shifts and logic.
+#[rattlefmt::skip]
+static SHIFTS_AND_LOGIC: [(&'static [u8], VexTold); 22] = [
     // psrlw (%rax),%xmm1
     (&[0x66, 0x0f, 0xd1, 0x08], ("psrl", 16, 4, 0, 0)),
     // vpsrlq %xmm3,%ymm2,%ymm1
@@ -192,6 +197,11 @@ static VECTOR_BYTES: [(&'static [u8], VexTold); 129] = [
     (&[0xc5, 0xe9, 0x56, 0x08], ("orp", 64, 4, 0, 2)),
     // xorps (%rax),%xmm1
     (&[0x0f, 0x57, 0x08], ("xorp", 32, 3, 0, 0)),
+];
+
+/// Moves of whole vectors.
+#[rattlefmt::skip]
+static WHOLE_MOVES: [(&'static [u8], VexTold); 18] = [
     // movdqa (%rax),%xmm1
     (&[0x66, 0x0f, 0x6f, 0x08], ("movdqa", 32, 4, 0, 0)),
     // movdqa %xmm1,0x8(%rax)
@@ -228,6 +238,11 @@ static VECTOR_BYTES: [(&'static [u8], VexTold); 129] = [
     (&[0xf2, 0x0f, 0xf0, 0x08], ("lddqu", 32, 4, 0, 0)),
     // vlddqu (%rax),%ymm1
     (&[0xc5, 0xff, 0xf0, 0x08], ("lddqu", 32, 4, 0, 0)),
+];
+
+/// Moves of elements, and forms that say something of the encoding.
+#[rattlefmt::skip]
+static ELEMENT_MOVES: [(&'static [u8], VexTold); 51] = [
     // movd %eax,%xmm1
     (&[0x66, 0x0f, 0x6e, 0xc8], ("movd", 32, 4, 0, 0)),
     // movq %rax,%xmm9
@@ -329,8 +344,20 @@ static VECTOR_BYTES: [(&'static [u8], VexTold); 129] = [
     (&[0xc5, 0xff, 0x11, 0x08], ("movsd", 64, 4, 0, 0)),
 ];
 
-pub(super) fn vector_bytes() -> &'static [(&'static [u8], VexTold)] {
-    &VECTOR_BYTES
+pub(super) fn arithmetic_bytes() -> &'static [(&'static [u8], VexTold)] {
+    &ARITHMETIC
+}
+
+pub(super) fn shift_and_logic_bytes() -> &'static [(&'static [u8], VexTold)] {
+    &SHIFTS_AND_LOGIC
+}
+
+pub(super) fn whole_move_bytes() -> &'static [(&'static [u8], VexTold)] {
+    &WHOLE_MOVES
+}
+
+pub(super) fn element_move_bytes() -> &'static [(&'static [u8], VexTold)] {
+    &ELEMENT_MOVES
 }
 
 /// What no row takes.
