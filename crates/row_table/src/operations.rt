@@ -253,7 +253,10 @@ pub enum CrossOp {
     Vpermpd,
     Vpermi2,
     Vpermt2,
+    /// By a second source.
     Vpermilp,
+    /// By an immediate.
+    VpermilpIb,
     Shuf,
     Unpckl,
     Unpckh,
@@ -267,15 +270,21 @@ pub enum CrossOp {
     Pblendv,
     Blendvp,
     Vpblendm,
-    /// From the low lane, from a general register or of a block of memory.
+    /// Of the low lane, or of a general register.
     Broadcast,
+    /// Of the low 2, 4 or 8 lanes together.
+    Broadcast2,
+    Broadcast4,
+    Broadcast8,
     /// VPBROADCASTMB2Q and VPBROADCASTMW2D.
     Vpbroadcastm,
     Vpmovm2,
     Vpmov2m,
-    /// VINSERTI128 and its kin.
-    Insert,
-    Extract,
+    /// VINSERTI128 and its kin: a block of 128 or 256 bits.
+    Insert128,
+    Insert256,
+    Extract128,
+    Extract256,
     Pinsr,
     Pextr,
     Insertps,
@@ -284,14 +293,26 @@ pub enum CrossOp {
     Pslldq,
 }
 
-/// Vector operations that change the width of lanes.
+/// Vector operations that change the width of lanes, or close up and spread out lanes by a mask.
 #[derive(Clone, Copy)]
 pub enum WidthOp {
-    Pmovsx,
-    Pmovzx,
-    Vpmovus,
-    Vpmovs,
-    Vpmov,
+    /// The last letter is the width of the lanes that are widened.
+    Pmovsxb,
+    Pmovsxw,
+    Pmovsxd,
+    Pmovzxb,
+    Pmovzxw,
+    Pmovzxd,
+    /// The last letter is the width of the lanes that are narrowed.
+    Vpmovusw,
+    Vpmovusd,
+    Vpmovusq,
+    Vpmovsw,
+    Vpmovsd,
+    Vpmovsq,
+    Vpmovw,
+    Vpmovd,
+    Vpmovq,
     Vpcompress,
     Vpexpand,
 }
