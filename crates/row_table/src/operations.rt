@@ -288,6 +288,8 @@ pub enum CrossOp {
     Pinsr,
     Pextr,
     Insertps,
+    /// INSERTPS of a number in memory.
+    InsertpsLoad,
     Extractps,
     Psrldq,
     Pslldq,
