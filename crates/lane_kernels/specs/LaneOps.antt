@@ -1,6 +1,6 @@
 -- What the operations on each lane by itself give, and which lanes the moves take (SDM volume 2, on the page of each
 -- operation, and volume 1, 9.3.2 for saturation).
-use Rattle.std.specs.Prelude.{ℕ, ◌≡◌, ◌⊎◌, ◌+◌, ◌-◌, ◌*◌, ◌/◌, ◌%◌, ◌^◌, ◌==◌, nat_lt, Bool, true, false, not, ◌||◌, if◌then◌else◌, List, zero, suc, min, max}
+use Rattle.std.specs.Prelude.{ℕ, ◌+◌, ◌-◌, ◌*◌, ◌/◌, ◌%◌, ◌^◌, ◌==◌, nat_lt, Bool, true, false, not, ◌||◌, if◌then◌else◌, List, zero, suc, min, max}
 use Rattle.std.specs.Prelude.{pos, ◌+ℤ◌, ◌-ℤ◌, int_lt, bit_and, bit_or, bit_xor}
 use Rattle.std.specs.Int.{bit_at}
 use Rattle.row_table.specs.declared.operations.Op.{Op}
@@ -10,6 +10,7 @@ use Rattle.row_table.specs.declared.operations.LaneOp.TheVariants.{Padd, Psub, P
 use Rattle.gpr_flags.specs.Numbers.{is_negative, signed_of}
 use Rattle.gpr_flags.specs.Shifts.{sar_value, rotated}
 use Rattle.num_lanes.specs.Lane.{lane_of}
+pub use Rattle.num_lanes.specs.Lane.{IsLength}
 use Rattle.num_lanes.specs.Ranges.{clamp_signed_of, clamp_unsigned_of}
 
 -- the operations of this crate: the lane operations, all of them
@@ -26,10 +27,6 @@ is_handled (Mask op) = false
 is_handled (Vector op) = false
 is_handled (Gather op) = false
 is_handled (Xsave op) = false
-
--- the lengths of vectors, in bytes
-abbrev pub IsLength : ℕ → Type 0
-IsLength length = (length ≡ 16) ⊎ ((length ≡ 32) ⊎ (length ≡ 64))
 
 -- ---- words of the operations, over lanes of n bits
 -- all bits 1, or all 0

@@ -1,8 +1,8 @@
 //! One lane of an operation.
 ghost use Rattle.std.specs.Prelude.{◌≡◌, ◌+◌, ◌*◌, ◌/◌, ◌%◌, ◌^◌, ◌<◌, ◌≤◌, length, IsTrue};
 ghost use Rattle.gpr_flags.specs.Registers.{is_size};
-ghost use Rattle.num_lanes.specs.Lane.{lane_of};
-ghost use Rattle.lane_kernels.specs.LaneOps.{IsLength, lane_raw};
+ghost use Rattle.num_lanes.specs.Lane.{IsLength, lane_of};
+ghost use Rattle.lane_kernels.specs.LaneOps.{lane_raw};
 
 use crate::bitwise::ternary;
 use crate::shifts::{left, right, right_signed, rotated_left, rotated_right};
