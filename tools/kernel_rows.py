@@ -87,7 +87,10 @@ def print_rows(tool, enum, cases):
     print(f"use row_table::{enum};\n")
     print("/// Operation, width of lanes in bytes, immediate, mask, and vectors as numbers of 16 bytes, the lowest first: destination, first")
     print("/// and second operand, and result.")
-    print(f"pub(crate) type Row<const N: usize> = ({enum}, u8, u8, u64, [u128; N], [u128; N], [u128; N], [u128; N]);")
+    print("pub(crate) type Row<const N: usize> = (")
+    for part in (enum, "u8", "u8", "u64", *["[u128; N]"] * 4):
+        print(f"    {part},")
+    print(");")
     for length in REGISTERS:
         rows = [row for row in answered if row[0].length == length]
         for place in range(0, len(rows), MOST):

@@ -5,7 +5,9 @@ ghost use Rattle.gpr_flags.specs.Numbers.{has_bit as has_bit_of};
 ghost use Rattle.num_lanes.specs.Lane.{IsLength, lane_of};
 ghost use Rattle.cross_kernels.specs.CrossOps.{per_block as per_block_of, block_of as block_by, place_of as place_by, two_bits as two_bits_of, of_both as of_both_by, named_block as named_block_of, inserted as inserted_of, extracted as extracted_of, with_single as with_single_of};
 
-use crate::places::{block_of, lane_at, lane_count, of_both, one_bit, one_of, per_block, place_of, two_bits};
+use crate::places::{
+    block_of, lane_at, lane_count, of_both, one_bit, one_of, per_block, place_of, two_bits,
+};
 use gpr_flags::{has_bit, power};
 
 /// One of two numbers.
@@ -61,7 +63,12 @@ fn named_block<const W: usize>(imm: u8, bytes: &[u8], lane: usize) -> usize
 }
 
 /// A lane of the block that an immediate names, of the first operand for the lower half of the vector, of the second for the upper.
-pub(crate) fn by_named_block<const W: usize>(imm: u8, first: &[u8], second: &[u8], lane: usize) -> u64
+pub(crate) fn by_named_block<const W: usize>(
+    imm: u8,
+    first: &[u8],
+    second: &[u8],
+    lane: usize,
+) -> u64
     requires width { IsTrue (is_size W) }
     requires first { IsLength (length first.now) }
     requires second { IsLength (length second.now) }
@@ -79,17 +86,22 @@ pub(crate) fn by_named_block<const W: usize>(imm: u8, first: &[u8], second: &[u8
 }
 
 /// A lane of the half that four bits of an immediate name, of both operands, or 0.
-pub(crate) fn by_named_half<const W: usize>(imm: u8, first: &[u8], second: &[u8], lane: usize) -> u64
+pub(crate) fn by_named_half<const W: usize>(
+    imm: u8,
+    first: &[u8],
+    second: &[u8],
+    lane: usize,
+) -> u64
     requires width { IsTrue (is_size W) }
     requires first { IsLength (length first.now) }
     requires second { IsLength (length second.now) }
     requires lane { lane < 64 }
     ensures { result ≡ (if has_bit_of imm (4 * block_by W lane + 3) then 0
         else of_both_by (length first.now / W) (lane_of W first.now) (lane_of W second.now)
-            (two_bits_of imm (2 * block_by W lane) * per_block_of W + place_by W lane)) }
+        (two_bits_of imm (2 * block_by W lane) * per_block_of W + place_by W lane)) }
 {
     let half = block_of::<W>(lane);
-    if has_bit(u64::from(imm), 4 * half as u32 + 3) {
+    if one_bit(imm, 4 * half + 3) == 1 {
         0
     } else {
         of_both::<W>(first, second, in_block::<W>(two_bits(imm, 2 * half), lane))
@@ -97,7 +109,13 @@ pub(crate) fn by_named_half<const W: usize>(imm: u8, first: &[u8], second: &[u8]
 }
 
 /// The blocks of so many lanes of the first operand, of which one is replaced by the lowest of the second.
-pub(crate) fn inserted<const W: usize>(size: usize, number: usize, first: &[u8], second: &[u8], lane: usize) -> u64
+pub(crate) fn inserted<const W: usize>(
+    size: usize,
+    number: usize,
+    first: &[u8],
+    second: &[u8],
+    lane: usize,
+) -> u64
     requires width { IsTrue (is_size W) }
     requires first { IsLength (length first.now) }
     requires second { IsLength (length second.now) }
@@ -112,7 +130,12 @@ pub(crate) fn inserted<const W: usize>(size: usize, number: usize, first: &[u8],
 }
 
 /// A block of so many lanes, and 0 above it.
-pub(crate) fn extracted<const W: usize>(size: usize, number: usize, second: &[u8], lane: usize) -> u64
+pub(crate) fn extracted<const W: usize>(
+    size: usize,
+    number: usize,
+    second: &[u8],
+    lane: usize,
+) -> u64
     requires width { IsTrue (is_size W) }
     requires second { IsLength (length second.now) }
     requires size { size ≤ 32 }

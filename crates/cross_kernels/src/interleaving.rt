@@ -6,7 +6,7 @@ ghost use Rattle.num_lanes.specs.Lane.{IsLength, lane_of};
 ghost use Rattle.cross_kernels.specs.CrossOps.{in_turn as in_turn_by, wide_in_row as wide_in_row_of};
 
 use crate::places::{block_start, one_of, per_block, place_of};
-use gpr_flags::signed;
+use gpr_flags::{power, signed};
 
 /// The lanes of two operands in turn, those of the block from a place of it on.
 pub(crate) fn in_turn<const W: usize>(from: usize, first: &[u8], second: &[u8], lane: usize) -> u64
@@ -18,7 +18,12 @@ pub(crate) fn in_turn<const W: usize>(from: usize, first: &[u8], second: &[u8], 
     ensures { result ≡ in_turn_by W from (lane_of W first.now) (lane_of W second.now) lane }
 {
     let place = place_of::<W>(lane);
-    one_of::<W>(place % 2 == 0, first, second, block_start::<W>(lane) + from + place / 2)
+    one_of::<W>(
+        place % 2 == 0,
+        first,
+        second,
+        block_start::<W>(lane) + from + place / 2,
+    )
 }
 
 /// The number in two's complement of which these are the lower and the upper half.
@@ -29,7 +34,7 @@ fn signed_pair(bits: u32, low: u64, high: u64) -> i128
     requires high { high < 2 ^ bits }
     ensures { result ≡ signed_of (2 * bits) (low + 2 ^ bits * high) }
 {
-    i128::from(signed(bits, high)) * (1 << bits) + i128::from(low)
+    i128::from(signed(bits, high)) * power(bits) as i128 + i128::from(low)
 }
 
 /// The numbers of twice the width, one a lane: those of the first operand's block, and then those of the second's.

@@ -32,7 +32,12 @@ pub(crate) fn lane_at<const W: usize>(bytes: &[u8], lane: usize) -> u64
 }
 
 /// A lane of one of two operands.
-pub(crate) fn one_of<const W: usize>(of_first: bool, first: &[u8], second: &[u8], lane: usize) -> u64
+pub(crate) fn one_of<const W: usize>(
+    of_first: bool,
+    first: &[u8],
+    second: &[u8],
+    lane: usize,
+) -> u64
     requires width { IsTrue (is_size W) }
     requires first { IsLength (length first.now) }
     requires second { IsLength (length second.now) }
@@ -101,20 +106,26 @@ pub(crate) fn place_of<const W: usize>(lane: usize) -> usize
     lane % per_block::<W>()
 }
 
-/// Two bits of an immediate.
+/// Two bits of an immediate, the field of that number; it has four.
 pub(crate) fn two_bits(imm: u8, field: usize) -> usize
-    requires { field < 32 }
     ensures value { result ≡ two_bits_of imm field }
     ensures small { result < 4 }
 {
-    ((u64::from(imm) >> (2 * field)) % 4) as usize
+    if field < 4 {
+        usize::from((imm >> (2 * field)) % 4)
+    } else {
+        0
+    }
 }
 
-/// One bit of an immediate.
+/// One bit of an immediate, which has eight.
 pub(crate) fn one_bit(imm: u8, place: usize) -> usize
-    requires { place < 64 }
     ensures value { result ≡ imm / 2 ^ place % 2 }
     ensures small { result < 2 }
 {
-    ((u64::from(imm) >> place) % 2) as usize
+    if place < 8 {
+        usize::from((imm >> place) % 2)
+    } else {
+        0
+    }
 }

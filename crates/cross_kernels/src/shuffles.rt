@@ -21,7 +21,10 @@ pub(crate) fn by_lane<const W: usize>(first: &[u8], second: &[u8], lane: usize) 
     if is_negative(8 * W as u32, index) {
         0
     } else {
-        lane_at::<W>(first, block_start::<W>(lane) + index as usize % per_block::<W>())
+        lane_at::<W>(
+            first,
+            block_start::<W>(lane) + index as usize % per_block::<W>(),
+        )
     }
 }
 
@@ -32,7 +35,10 @@ pub(crate) fn by_two_bits<const W: usize>(imm: u8, second: &[u8], lane: usize) -
     requires lane { lane < 64 }
     ensures { result ≡ lane_of W second.now (start_of W lane + two_bits_of imm (place_by W lane)) }
 {
-    lane_at::<W>(second, block_start::<W>(lane) + two_bits(imm, place_of::<W>(lane)))
+    lane_at::<W>(
+        second,
+        block_start::<W>(lane) + two_bits(imm, place_of::<W>(lane)),
+    )
 }
 
 /// The same for the lower four lanes of the block; the others stay.
@@ -62,7 +68,10 @@ pub(crate) fn upper_four<const W: usize>(imm: u8, second: &[u8], lane: usize) ->
     if place < 4 {
         lane_at::<W>(second, lane)
     } else {
-        lane_at::<W>(second, block_start::<W>(lane) + 4 + two_bits(imm, place - 4))
+        lane_at::<W>(
+            second,
+            block_start::<W>(lane) + 4 + two_bits(imm, place - 4),
+        )
     }
 }
 
@@ -110,7 +119,12 @@ pub(crate) fn by_halves<const W: usize>(imm: u8, first: &[u8], second: &[u8], la
         else lane_of W second.now (start_of W lane + named_place_of W imm lane)) }
 {
     let of_first = place_of::<W>(lane) < per_block::<W>() / 2;
-    one_of::<W>(of_first, first, second, block_start::<W>(lane) + named_place::<W>(imm, lane))
+    one_of::<W>(
+        of_first,
+        first,
+        second,
+        block_start::<W>(lane) + named_place::<W>(imm, lane),
+    )
 }
 
 /// The place in a block that a lane names: by bit 1 of a lane of 8 bytes, by the low two bits of any other.

@@ -66,6 +66,64 @@ fn lanes_of_64_bytes_are_a_processors(rt: HostRuntime) {
     check_rows(&rt, &ROWS_64_2);
 }
 
+/// Bytes that go on from a number, each by so much more than the one before.
+fn counted(from: u8, by: u8) -> Vec64 {
+    let mut bytes = [0; 64];
+    for index in 0..64u8 {
+        bytes[usize::from(index)] = from.wrapping_add(index.wrapping_mul(by));
+    }
+    bytes
+}
+
+// of bytes that are equal to their places in two tables of 64, an index takes itself, without its highest bit
+#[test]
+#[tactic(auto, unfolding(crate::specs::CrossOps::is_handled))]
+fn bytes_are_taken_by_the_low_bits_of_an_index(rt: HostRuntime) {
+    let index = counted(255, 253);
+    let low = counted(0, 1);
+    let high = counted(64, 1);
+    let mut into: Vec64 = [0; 64];
+    apply(
+        Op::Cross(CrossOp::Vperm),
+        1,
+        0,
+        &low,
+        &index,
+        &high,
+        0,
+        &mut into,
+    );
+    for place in 0..64 {
+        assert_eq!(rt; into[place], 64 + index[place] % 64);
+    }
+    apply(
+        Op::Cross(CrossOp::Vpermi2),
+        1,
+        0,
+        &index,
+        &low,
+        &high,
+        0,
+        &mut into,
+    );
+    for place in 0..64 {
+        assert_eq!(rt; into[place], index[place] % 128);
+    }
+    apply(
+        Op::Cross(CrossOp::Vpermt2),
+        1,
+        0,
+        &low,
+        &index,
+        &high,
+        0,
+        &mut into,
+    );
+    for place in 0..64 {
+        assert_eq!(rt; into[place], index[place] % 128);
+    }
+}
+
 #[test]
 fn cross_operations_alone_are_handled(rt: HostRuntime) {
     assert!(rt; handles(Op::Cross(CrossOp::Punpckl)));

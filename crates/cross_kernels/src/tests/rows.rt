@@ -3,7 +3,16 @@ use row_table::CrossOp;
 
 /// Operation, width of lanes in bytes, immediate, mask, and vectors as numbers of 16 bytes, the lowest first: destination, first
 /// and second operand, and result.
-pub(crate) type Row<const N: usize> = (CrossOp, u8, u8, u64, [u128; N], [u128; N], [u128; N], [u128; N]);
+pub(crate) type Row<const N: usize> = (
+    CrossOp,
+    u8,
+    u8,
+    u64,
+    [u128; N],
+    [u128; N],
+    [u128; N],
+    [u128; N],
+);
 
 #[rattlefmt::skip]
 pub(crate) static ROWS_16_1: [Row<1>; 50] = [
