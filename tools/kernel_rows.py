@@ -1,8 +1,8 @@
-"""Asks the processor of this computer what instructions on vector registers give, and prints the rows of a crate's src/tests/rows.rt.
+"""Asks the processor of this computer what instructions on vector registers give, and prints it as the rows of a crate's tests.
 
-A case is one instruction, or a few, with an operation of row_table that they have. Its operands are in vector registers 1, 2 and 3,
-its mask in K1, and its result is what is left in vector register 0. %v0 to %v7 in its text are XMM, YMM or ZMM registers, by the
-length of its vectors. It may change RAX, RCX, RDX, K1 to K3 and vector registers 0 to 7, and has 128 bytes of its own below RSP.
+A case is one instruction, or a few, and the operation of row_table that they have. Its operands are in vector registers 1, 2
+and 3, its mask in K1, and its result is what is left in vector register 0. %v0 to %v7 in its text are XMM, YMM or ZMM registers,
+by the length of its vectors. It may change RAX, RCX, RDX, K1 to K3, vector registers 0 to 7 and 128 bytes below RSP.
 Needs gcc, and Linux on a processor with AVX512BW and AVX512VL, and with whatever the instructions of the cases need.
 """
 import dataclasses
@@ -13,13 +13,13 @@ import tempfile
 
 REGISTERS = {16: "xmm", 32: "ymm", 64: "zmm"}
 MOST = 50       # rows in a table: a longer one takes the prover past its limit
-CLOBBERED = ", ".join(f'"{name}"' for name in ["rax", "rcx", "rdx", "k1", "k2", "k3", *(f"xmm{n}" for n in range(8)), "cc", "memory"])
+CHANGED = ["rax", "rcx", "rdx", "k1", "k2", "k3", *(f"xmm{n}" for n in range(8)), "cc", "memory"]
 
 
 @dataclasses.dataclass
 class Case:
-    """An operation's name, the width of its lanes in bytes, its immediate, the number in K1, the length of its vectors in bytes, the
-    instructions (AT&T, separated by semicolons), and the operands as numbers: destination, first and second source."""
+    """An operation's name, the width of its lanes in bytes, its immediate, the number in K1, the length of its vectors in bytes,
+    the instructions (AT&T, separated by semicolons), and the operands as numbers: destination, first and second source."""
     name: str
     width: int
     imm: int
@@ -33,20 +33,24 @@ class Case:
 
 def quadwords(case):
     """What the program takes of a case: its three operands, of 64 bytes each, and its mask."""
-    return [number >> place & (1 << 64) - 1 for number in (case.dest, case.first, case.second) for place in range(0, 512, 64)] + [case.mask]
+    operands = (case.dest, case.first, case.second)
+    return [number >> place & (1 << 64) - 1 for number in operands for place in range(0, 512, 64)] + [case.mask]
 
 
 def statement(index, case):
     text = re.sub(r"%v(\d)", rf"%{REGISTERS[case.length]}\1", case.text).replace("%", "%%").replace("{", "%{").replace("}", "%}")
-    return (f'asm volatile("vmovdqu64 (%0), %%zmm1; vmovdqu64 64(%0), %%zmm2; vmovdqu64 128(%0), %%zmm3; kmovq 192(%0), %%k1; {text}; '
-            f'vmovdqu64 %%zmm0, (%1)" : : "r"(in[{index}]), "r"(out) : {CLOBBERED}); show({case.length // 8});')
+    load = "vmovdqu64 (%0), %%zmm1; vmovdqu64 64(%0), %%zmm2; vmovdqu64 128(%0), %%zmm3; kmovq 192(%0), %%k1"
+    changed = ", ".join(f'"{name}"' for name in CHANGED)
+    return (f'asm volatile("{load}; {text}; vmovdqu64 %%zmm0, (%1)" : : "r"(in[{index}]), "r"(out) : {changed}); '
+            f'show({case.length // 8});')
 
 
 def program(cases):
     table = ",\n".join("{" + ", ".join(f"0x{number:x}ull" for number in quadwords(case)) + "}" for case in cases)
-    return "\n".join(['#include <stdio.h>', 'typedef unsigned long long u64;', f'static const u64 in[{len(cases)}][25] = {{{table}}};',
-                      'static u64 out[8];', 'static void show(int count) {', 'while (count--) printf("%016llx", out[count]);',
-                      'printf("\\n"); }', 'int main(void) {', *(statement(index, case) for index, case in enumerate(cases)), 'return 0; }'])
+    head = ['#include <stdio.h>', 'typedef unsigned long long u64;', f'static const u64 in[{len(cases)}][25] = {{{table}}};',
+            'static u64 out[8];', 'static void show(int count) { while (count--) printf("%016llx", out[count]); printf("\\n"); }',
+            'int main(void) {']
+    return "\n".join([*head, *(statement(index, case) for index, case in enumerate(cases)), 'return 0; }'])
 
 
 def results(cases):
@@ -85,8 +89,8 @@ def print_rows(tool, enum, cases):
     answered = list(zip(cases, results(cases)))
     print(f"//! What each operation gives on a processor, as tools/{tool} prints it.")
     print(f"use row_table::{enum};\n")
-    print("/// Operation, width of lanes in bytes, immediate, mask, and vectors as numbers of 16 bytes, the lowest first: destination, first")
-    print("/// and second operand, and result.")
+    print("/// Operation, width of lanes in bytes, immediate, mask, and vectors as numbers of 16 bytes, the lowest first: destination,")
+    print("/// first and second operand, and result.")
     print("pub(crate) type Row<const N: usize> = (")
     for part in (enum, "u8", "u8", "u64", *["[u128; N]"] * 4):
         print(f"    {part},")

@@ -1,6 +1,7 @@
--- Which lanes of which operand the operations that move lanes take to each lane of the result (SDM volume 2, on the pages that are
--- named at the operations).
+-- Which lanes of which operand the operations that move lanes take to each lane of the result (SDM volume 2, on the pages named at
+-- the operations).
 use Rattle.std.specs.Prelude.{ℕ, ◌+◌, ◌-◌, ◌*◌, ◌/◌, ◌%◌, ◌^◌, ◌==◌, nat_lt, ℤ, Bool, true, false, if◌then◌else◌, List, length}
+use Rattle.std.specs.Int.{bit_at}
 use Rattle.row_table.specs.declared.operations.Op.{Op}
 use Rattle.row_table.specs.declared.operations.Op.TheVariants.{Core, Gpr, Bit, String, Lane, Cross, Width, Mac, Mask, Vector, Gather, Xsave}
 use Rattle.row_table.specs.declared.operations.CrossOp.{CrossOp}
@@ -70,15 +71,15 @@ of_blocks w i low high k =
     if nat_lt k (per_block w) then low (block_start w i + k)
     else if nat_lt k (2 * per_block w) then high (block_start w i + (k - per_block w)) else 0
 
--- the place in the block that an immediate names for lane i: by one bit a lane of 8 bytes, by two bits a place else
+-- the place in the block that an immediate names for lane i: by bit i where lanes have 8 bytes, else by two bits for each place
 abbrev pub named_place : (w imm i : ℕ) → ℕ
-named_place w imm i = if w == 8 then imm / 2 ^ i % 2 else two_bits imm (place_of w i)
+named_place w imm i = if w == 8 then bit_at imm i else two_bits imm (place_of w i)
 
 -- the block that an immediate names for the block of lane i, of n lanes: by two bits where there are four, else by one
 abbrev pub named_block : (w n imm i : ℕ) → ℕ
 named_block w n imm i =
     let block = block_of w i in
-    if n == 4 * per_block w then two_bits imm block else imm / 2 ^ block % 2
+    if n == 4 * per_block w then two_bits imm block else bit_at imm block
 
 -- the blocks of so many lanes of a, of which one is replaced by the lowest of b
 abbrev pub inserted : (size number : ℕ) → (a b : ℕ → ℕ) → (i : ℕ) → ℕ
@@ -93,8 +94,8 @@ abbrev pub with_single : (imm number : ℕ) → (a : ℕ → ℕ) → (i : ℕ) 
 with_single imm number a i = if has_bit imm i then 0 else if i == two_bits imm 2 then number else a i
 
 -- ---- by operation
--- lane i of the result, of which the low 8 * w bits count: by the lanes of w bytes of the destination d, the first operand a and the
--- second b, n in each, each by its number; the immediate, the mask, and the number in the low 64 bits of the second operand
+-- lane i of the result, of which the low 8 * w bits count: by the n lanes of w bytes of the destination d, of the first operand a
+-- and of the second b, each by its number, the immediate, the mask, and the number in the low 64 bits of the second operand
 unfoldable pub lane_raw : CrossOp → (w n imm mask : ℕ) → (d a b : ℕ → ℕ) → (low i : ℕ) → ℕ
 -- PUNPCKLBW/WD/DQ/QDQ, PUNPCKHBW/WD/DQ/QDQ, UNPCKLPS, UNPCKLPD, UNPCKHPS, UNPCKHPD
 lane_raw Punpckl w n imm mask d a b low i = in_turn w 0 a b i
@@ -107,12 +108,14 @@ lane_raw Packus w n imm mask d a b low i = clamp_unsigned_of (8 * w) (wide_in_ro
 -- PSHUFB, PSHUFD, PSHUFHW, PSHUFLW
 lane_raw Pshufb w n imm mask d a b low i = if is_negative (8 * w) (b i) then 0 else a (block_start w i + b i % per_block w)
 lane_raw Pshufd w n imm mask d a b low i = b (block_start w i + two_bits imm (place_of w i))
-lane_raw Pshufhw w n imm mask d a b low i = if nat_lt (place_of w i) 4 then b i else b (block_start w i + 4 + two_bits imm (place_of w i - 4))
-lane_raw Pshuflw w n imm mask d a b low i = if nat_lt (place_of w i) 4 then b (block_start w i + two_bits imm (place_of w i)) else b i
+lane_raw Pshufhw w n imm mask d a b low i =
+    if nat_lt (place_of w i) 4 then b i else b (block_start w i + 4 + two_bits imm (place_of w i - 4))
+lane_raw Pshuflw w n imm mask d a b low i =
+    if nat_lt (place_of w i) 4 then b (block_start w i + two_bits imm (place_of w i)) else b i
 -- PALIGNR, VALIGND/VALIGNQ
 lane_raw Palignr w n imm mask d a b low i = of_blocks w i b a (place_of w i + imm)
 lane_raw Valign w n imm mask d a b low i = of_both n b a (i + imm % n)
--- VPERMB, VPERMD/VPERMW, VPERMPS, VPERMPD (index), VPERMQ, VPERMPD (immediate)
+-- VPERMB, VPERMD/VPERMW, VPERMPS; VPERMQ and VPERMPD, which have a form by index and one by immediate
 lane_raw Vperm w n imm mask d a b low i = b (a i % n)
 lane_raw Vpermp w n imm mask d a b low i = b (a i % n)
 lane_raw Vpermq w n imm mask d a b low i = b (i / 4 * 4 + two_bits imm (i % 4))
@@ -137,24 +140,25 @@ lane_raw Vperm2f128 w n imm mask d a b low i =
 lane_raw Vperm2i128 w n imm mask d a b low i =
     let half = block_of w i in
     if has_bit imm (4 * half + 3) then 0 else of_both n a b (two_bits imm (2 * half) * per_block w + place_of w i)
--- PBLENDW, BLENDPS, BLENDPD, VPBLENDD, PBLENDVB, BLENDVPS, BLENDVPD, VPBLENDMB/VPBLENDMW, VPBLENDMD/VPBLENDMQ; what masked-out lanes
--- of VPBLENDM are is for the masks of all operations to say
+-- PBLENDW, BLENDPS, BLENDPD, VPBLENDD, PBLENDVB, BLENDVPS, BLENDVPD, VPBLENDMB/VPBLENDMW, VPBLENDMD/VPBLENDMQ; of the last two
+-- these are the lanes that are masked in
 lane_raw Pblend w n imm mask d a b low i = if has_bit imm (place_of w i) then b i else a i
 lane_raw Blendp w n imm mask d a b low i = if has_bit imm i then b i else a i
 lane_raw Vpblend w n imm mask d a b low i = if has_bit imm i then b i else a i
 lane_raw Pblendv w n imm mask d a b low i = if has_bit mask i then b i else a i
 lane_raw Blendvp w n imm mask d a b low i = if has_bit mask i then b i else a i
 lane_raw Vpblendm w n imm mask d a b low i = b i
--- VPBROADCAST, VBROADCAST, VPBROADCASTB/W/D/Q from a general register
+-- VPBROADCAST, VBROADCAST, and VPBROADCASTB/W/D/Q from a general register
 lane_raw Broadcast w n imm mask d a b low i = b 0
 lane_raw Broadcast2 w n imm mask d a b low i = b (i % 2)
 lane_raw Broadcast4 w n imm mask d a b low i = b (i % 4)
 lane_raw Broadcast8 w n imm mask d a b low i = b (i % 8)
--- VPBROADCASTMB2Q, VPBROADCASTMW2D; VPMOVM2B/W/D/Q; VPMOVB2M/W2M/D2M/Q2M, whose bits are the signs of the lanes
+-- VPBROADCASTM, VPMOVM2B/VPMOVM2W/VPMOVM2D/VPMOVM2Q, VPMOVB2M/VPMOVW2M/VPMOVD2M/VPMOVQ2M; the bits of the last are the signs of
+-- these lanes
 lane_raw Vpbroadcastm w n imm mask d a b low i = if w == 8 then low % 2 ^ 8 else low % 2 ^ 16
 lane_raw Vpmovm2 w n imm mask d a b low i = if has_bit low i then 2 ^ (8 * w) - 1 else 0
 lane_raw Vpmov2m w n imm mask d a b low i = b i
--- VINSERTF128/32x4/64x2 and VINSERTI128/32x4/64x2, VINSERTF32x8/64x4 and VINSERTI32x8/64x4; VEXTRACTF128 and the others alike
+-- VINSERTF128/VINSERTF32x4/VINSERTF64x2/VINSERTF32x8/VINSERTF64x4 and VINSERTI128/.., VEXTRACTF128/.. and VEXTRACTI128/..
 lane_raw Insert128 w n imm mask d a b low i = inserted (per_block w) (imm % (n / per_block w)) a b i
 lane_raw Insert256 w n imm mask d a b low i = inserted (2 * per_block w) (imm % 2) a b i
 lane_raw Extract128 w n imm mask d a b low i = extracted (per_block w) (imm % (n / per_block w)) b i
@@ -173,7 +177,8 @@ lane_raw Pslldq w n imm mask d a b low i = if nat_lt (place_of w i) imm then 0 e
 -- lane i of an operation on lanes of w bytes
 abbrev pub lane_op : CrossOp → (w imm : ℕ) → (dest first second : List ℕ) → (mask i : ℕ) → ℕ
 lane_op op w imm dest first second mask i =
-    lane_raw op w (length second / w) imm mask (lane_of w dest) (lane_of w first) (lane_of w second) (lane_of 8 second 0) i % 2 ^ (8 * w)
+    lane_raw op w (length second / w) imm mask (lane_of w dest) (lane_of w first) (lane_of w second) (lane_of 8 second 0) i
+    % 2 ^ (8 * w)
 
 -- the same of an operation of this crate
 unfoldable pub op_lane : Op → (w imm : ℕ) → (dest first second : List ℕ) → (mask i : ℕ) → ℕ

@@ -57,10 +57,11 @@ fn apply_at<const W: usize>(
     }
 }
 
-/// Puts the result of an operation into each lane of `into`, of lanes of `width` bytes. All slices have the vector's length, 16, 32
-/// or 64 bytes. An operation of one source takes `second`, but PSRLDQ and PSLLDQ take `first`. The mask has a bit for each lane
-/// of the second operand that a blend takes; no other operation looks at it. An operation that takes a mask register, or a number
-/// that isn't a vector, has it in the low lanes of `second`; where its result isn't a vector, that is in the low lanes of `into`.
+/// Puts the result of an operation into each lane of `into`, of lanes of `width` bytes. All slices have the vector's length, 16,
+/// 32 or 64 bytes. An operation of one source takes `second`, but PSRLDQ and PSLLDQ take `first`. The mask tells PBLENDVB, BLENDVPS
+/// and BLENDVPD which lanes to take of `second`; no other operation looks at it. An operand that is an opmask, or a number from a
+/// general register or memory, is in the low bytes of `second`. A result that is a number is in lane 0 of `into`, and VPMOVB2M and
+/// its kin have their opmask in the signs of the lanes there.
 #[tactic(auto, unfolding(crate::specs::CrossOps::is_handled, crate::specs::CrossOps::op_lane))]
 pub fn apply(
     op: Op,

@@ -62,7 +62,7 @@ fn named_block<const W: usize>(imm: u8, bytes: &[u8], lane: usize) -> usize
     }
 }
 
-/// A lane of the block that an immediate names, of the first operand for the lower half of the vector, of the second for the upper.
+/// A lane of the block that an immediate names, of the first operand for the lower half of the lanes, of the second for the upper.
 pub(crate) fn by_named_block<const W: usize>(
     imm: u8,
     first: &[u8],

@@ -43,8 +43,8 @@ pub(crate) fn one_lane<const W: usize>(
     requires first { length first.now ≡ length second.now }
     requires lane { lane < 64 }
     ensures { result % 2 ^ (8 * W)
-        ≡ lane_raw op W (length second.now / W) common.imm common.mask (lane_of W dest.now) (lane_of W first.now) (lane_of W second.now)
-        common.low lane % 2 ^ (8 * W) }
+        ≡ lane_raw op W (length second.now / W) common.imm common.mask
+        (lane_of W dest.now) (lane_of W first.now) (lane_of W second.now) common.low lane % 2 ^ (8 * W) }
 {
     let Common { imm, mask, low } = common;
     let bits = 8 * W as u32;

@@ -1,5 +1,6 @@
 //! Lanes by their number, their places in blocks of 128 bits, and the places that an immediate names.
 ghost use Rattle.std.specs.Prelude.{◌≡◌, ◌+◌, ◌*◌, ◌/◌, ◌%◌, ◌^◌, ◌<◌, ◌≤◌, length, IsTrue, if◌then◌else◌, nat_lt};
+ghost use Rattle.std.specs.Int.{bit_at};
 ghost use Rattle.gpr_flags.specs.Registers.{is_size};
 ghost use Rattle.num_lanes.specs.Lane.{IsLength, lane_of};
 ghost use Rattle.cross_kernels.specs.CrossOps.{per_block as per_block_of, block_of as block_by, block_start as start_of, place_of as place_by, two_bits as two_bits_of, of_both as of_both_by};
@@ -120,7 +121,7 @@ pub(crate) fn two_bits(imm: u8, field: usize) -> usize
 
 /// One bit of an immediate, which has eight.
 pub(crate) fn one_bit(imm: u8, place: usize) -> usize
-    ensures value { result ≡ imm / 2 ^ place % 2 }
+    ensures value { result ≡ bit_at imm place }
     ensures small { result < 2 }
 {
     if place < 8 {

@@ -46,8 +46,8 @@ pub(crate) fn lower_four<const W: usize>(imm: u8, second: &[u8], lane: usize) ->
     requires width { IsTrue (is_size W) }
     requires second { IsLength (length second.now) }
     requires lane { lane < 64 }
-    ensures { result ≡ (if nat_lt (place_by W lane) 4 then lane_of W second.now (start_of W lane + two_bits_of imm (place_by W lane))
-        else lane_of W second.now lane) }
+    ensures { result ≡ (if nat_lt (place_by W lane) 4
+        then lane_of W second.now (start_of W lane + two_bits_of imm (place_by W lane)) else lane_of W second.now lane) }
 {
     if place_of::<W>(lane) < 4 {
         by_two_bits::<W>(imm, second, lane)
@@ -95,7 +95,7 @@ pub(crate) fn of_blocks<const W: usize>(low: &[u8], high: &[u8], lane: usize, pl
     }
 }
 
-/// The place in the block that an immediate names for a lane: by one bit a lane of 8 bytes, by two bits a place else.
+/// The place in the block that an immediate names for a lane: by one bit where lanes have 8 bytes, else by two bits for each place.
 pub(crate) fn named_place<const W: usize>(imm: u8, lane: usize) -> usize
     requires width { IsTrue (is_size W) }
     requires lane { lane < 64 }
@@ -115,8 +115,8 @@ pub(crate) fn by_halves<const W: usize>(imm: u8, first: &[u8], second: &[u8], la
     requires first { IsLength (length first.now) }
     requires second { IsLength (length second.now) }
     requires lane { lane < 64 }
-    ensures { result ≡ (if nat_lt (place_by W lane) (per_block_of W / 2) then lane_of W first.now (start_of W lane + named_place_of W imm lane)
-        else lane_of W second.now (start_of W lane + named_place_of W imm lane)) }
+    ensures { let k = start_of W lane + named_place_of W imm lane in
+        result ≡ (if nat_lt (place_by W lane) (per_block_of W / 2) then lane_of W first.now k else lane_of W second.now k) }
 {
     let of_first = place_of::<W>(lane) < per_block::<W>() / 2;
     one_of::<W>(

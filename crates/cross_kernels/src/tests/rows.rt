@@ -1,8 +1,8 @@
 //! What each operation gives on a processor, as tools/cross_rows prints it.
 use row_table::CrossOp;
 
-/// Operation, width of lanes in bytes, immediate, mask, and vectors as numbers of 16 bytes, the lowest first: destination, first
-/// and second operand, and result.
+/// Operation, width of lanes in bytes, immediate, mask, and vectors as numbers of 16 bytes, the lowest first: destination,
+/// first and second operand, and result.
 pub(crate) type Row<const N: usize> = (
     CrossOp,
     u8,

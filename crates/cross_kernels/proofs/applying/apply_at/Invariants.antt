@@ -4,4 +4,5 @@ use Rattle.cross_kernels.specs.CrossOps.{lane_op}
 use Rattle.cross_kernels.proofs.applying.apply_at.Given as goal
 
 abbrev pub invariant-loop-lane : goal.invariant-loop-lane
-invariant-loop-lane g l = (i : ℕ) → i < l.lane → lane_of g.row.W l.into i ≡ lane_op l.op g.row.W l.imm l.dest l.first l.second l.mask i
+invariant-loop-lane g l =
+    (i : ℕ) → i < l.lane → lane_of g.row.W l.into i ≡ lane_op l.op g.row.W l.imm l.dest l.first l.second l.mask i
