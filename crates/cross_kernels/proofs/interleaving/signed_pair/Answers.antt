@@ -1,7 +1,6 @@
-use Rattle.std.proofs.Common.{◌≡◌, ◌^◌, ◌<◌, ◌≤◌, ℤ, pos, ◌+ℤ◌, ◌*ℤ◌, to_z, of_z, FitsSigned, ap, ◌∙◌, arith}
+use Rattle.std.proofs.Common.{◌^◌, pos, ◌+ℤ◌, ◌*ℤ◌}
 use Rattle.std.specs.Int.{w128}
-use Rattle.std.proofs.lemmas.Int.{to_z-of_z, to_z_pos, ints}
-use Rattle.std.proofs.Math.Nat.{pow-le-pow_right}
+use Rattle.std.proofs.lemmas.Int.{to_z-of_z}
 use Rattle.gpr_flags.specs.Numbers.{signed_of}
 use Rattle.cross_kernels.proofs.Pairs.{signed-pair, widened, power-is}
 use Rattle.cross_kernels.proofs.interleaving.signed_pair.Goals as goal
