@@ -1,6 +1,6 @@
 -- What the operations on each lane by itself give, and which lanes the moves take (SDM volume 2, on the page of each
 -- operation, and volume 1, 9.3.2 for saturation).
-use Rattle.std.specs.Prelude.{ℕ, ◌≡◌, ◌⊎◌, ◌+◌, ◌-◌, ◌*◌, ◌/◌, ◌%◌, ◌^◌, ◌==◌, nat_lt, Bool, true, false, not, ◌||◌, if◌then◌else◌, List, zero, suc, min, max}
+use Rattle.std.specs.Prelude.{ℕ, ◌+◌, ◌-◌, ◌*◌, ◌/◌, ◌%◌, ◌^◌, ◌==◌, nat_lt, Bool, true, false, not, ◌||◌, if◌then◌else◌, List, zero, suc, min, max}
 use Rattle.std.specs.Prelude.{pos, ◌+ℤ◌, ◌-ℤ◌, int_lt, bit_and, bit_or, bit_xor}
 use Rattle.std.specs.Int.{bit_at}
 use Rattle.row_table.specs.declared.operations.Op.{Op}
@@ -10,7 +10,7 @@ use Rattle.row_table.specs.declared.operations.LaneOp.TheVariants.{Padd, Psub, P
 use Rattle.gpr_flags.specs.Numbers.{is_negative, signed_of}
 use Rattle.gpr_flags.specs.Shifts.{sar_value, rotated}
 use Rattle.num_lanes.specs.Lane.{lane_of}
-use Rattle.num_lanes.specs.Ranges.{clamp_signed_of, clamp_unsigned_of}
+use Rattle.num_lanes.specs.Ranges.{clamp_signed_of, clamp_unsigned_of, ones_where}
 
 -- the operations of this crate: the lane operations, all of them
 unfoldable pub is_handled : Op → Bool
@@ -27,15 +27,7 @@ is_handled (Vector op) = false
 is_handled (Gather op) = false
 is_handled (Xsave op) = false
 
--- the lengths of vectors, in bytes
-abbrev pub IsLength : ℕ → Type 0
-IsLength length = (length ≡ 16) ⊎ ((length ≡ 32) ⊎ (length ≡ 64))
-
 -- ---- words of the operations, over lanes of n bits
--- all bits 1, or all 0
-abbrev pub ones_where : (n : ℕ) → Bool → ℕ
-ones_where n holds = if holds then 2 ^ n - 1 else 0
-
 -- a number with the sign turned
 abbrev pub negated : (n a : ℕ) → ℕ
 negated n a = 2 ^ n - a

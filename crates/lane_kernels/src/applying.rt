@@ -1,8 +1,8 @@
 //! An operation on all lanes.
 ghost use Rattle.std.specs.Prelude.{◌≡◌, length, IsTrue};
 ghost use Rattle.gpr_flags.specs.Registers.{is_size};
-ghost use Rattle.num_lanes.specs.Lane.{LanesAre};
-ghost use Rattle.lane_kernels.specs.LaneOps.{is_handled, IsLength, op_lane, lane_op};
+ghost use Rattle.num_lanes.specs.Lane.{IsLength, LanesAre};
+ghost use Rattle.lane_kernels.specs.LaneOps.{is_handled, op_lane, lane_op};
 
 use crate::lane::{Common, one_lane};
 use num_lanes::{get_lane, set_lane};

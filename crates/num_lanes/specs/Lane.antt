@@ -1,6 +1,10 @@
 -- Lanes of a list of bytes.
-use Rattle.std.specs.Prelude.{ℕ, zero, suc, ◌≡◌, ◌+◌, ◌*◌, ◌≤◌, List, [], ◌++◌, length}
+use Rattle.std.specs.Prelude.{ℕ, zero, suc, ◌≡◌, ◌⊎◌, ◌+◌, ◌*◌, ◌≤◌, List, [], ◌++◌, length}
 use Rattle.std.specs.Simd.Lanes.{chunk, number_l, digits_l}
+
+-- the lengths of vectors, in bytes (SDM volume 1, 4.1 and 15.1)
+abbrev pub IsLength : ℕ → Type 0
+IsLength length = (length ≡ 16) ⊎ ((length ≡ 32) ⊎ (length ≡ 64))
 
 -- lane i of lanes of w bytes: the number in its bytes, the lowest first (SDM volume 1, 4.1)
 abbrev pub lane_of : (w : ℕ) → (bytes : List ℕ) → (i : ℕ) → ℕ

@@ -3,7 +3,7 @@ use Rattle.std.specs.Int.{w128}
 use Rattle.std.proofs.lemmas.Int.{to_z-of_z}
 use Rattle.gpr_flags.specs.Numbers.{low_of}
 use Rattle.gpr_flags.proofs.SignedBits.{low-bits}
-use Rattle.gpr_units.proofs.products.signed_halves.Goals as goal
+use Rattle.gpr_flags.proofs.products.signed_halves.Goals as goal
 
 pub returns-clause-low : goal.returns-clause-low
 returns-clause-low c =

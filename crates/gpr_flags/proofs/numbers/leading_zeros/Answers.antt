@@ -1,7 +1,7 @@
 use Rattle.std.proofs.Common.{arith}
 use Rattle.std.proofs.lemmas.Nat.{leading_le}
-use Rattle.bit_units.proofs.Widths.{leading_within, within_power}
-use Rattle.bit_units.proofs.scanning.leading_zeros.Goals as goal
+use Rattle.gpr_flags.proofs.Widths.{leading_within, within_power}
+use Rattle.gpr_flags.proofs.numbers.leading_zeros.Goals as goal
 
 pub overflow_sub-b : goal.overflow_sub-b
 overflow_sub-b c = omega (arith, leading_within c.args.width 64 c.args.b c.requires.most c.requires.b)
