@@ -10,8 +10,7 @@ use crate::numbers::masked;
 use crate::picking::{deposited, extracted};
 use crate::rotating::ror_value;
 use crate::scanning::{
-    bsf_value, bsr_value, popcnt_flags, popcnt_value, scan_flags, trailing_zeros,
-    zeros_flags,
+    bsf_value, bsr_value, popcnt_flags, popcnt_value, scan_flags, trailing_zeros, zeros_flags,
 };
 use crate::shifting::{shl_value, shr_value};
 use crate::single_bits::{bt_flags, btc_value, btr_value, bts_value};
