@@ -84,10 +84,8 @@ def print_table(name, enum, rows):
     print("];")
 
 
-def print_rows(tool, enum, cases):
-    """The file with the rows of the cases, in tables ROWS_16_1, ROWS_16_2, .. by the length of their vectors."""
-    answered = list(zip(cases, results(cases)))
-    print(f"//! What each operation gives on a processor, as tools/{tool} prints it.")
+def print_head(tool, enum, origin="on a processor"):
+    print(f"//! What each operation gives {origin}, as tools/{tool} prints it.")
     print(f"use row_table::{enum};\n")
     print("/// Operation, width of lanes in bytes, immediate, mask, and vectors as numbers of 16 bytes, the lowest first: destination,")
     print("/// first and second operand, and result.")
@@ -95,7 +93,18 @@ def print_rows(tool, enum, cases):
     for part in (enum, "u8", "u8", "u64", *["[u128; N]"] * 4):
         print(f"    {part},")
     print(");")
+
+
+def print_tables(stem, enum, answered):
+    """Cases and their results, in tables STEM_16_1, STEM_16_2, .. by the length of their vectors."""
     for length in REGISTERS:
         rows = [row for row in answered if row[0].length == length]
         for place in range(0, len(rows), MOST):
-            print_table(f"ROWS_{length}_{place // MOST + 1}", enum, rows[place:place + MOST])
+            print_table(f"{stem}_{length}_{place // MOST + 1}", enum, rows[place:place + MOST])
+
+
+def print_rows(tool, enum, cases):
+    """The file with the rows of the cases, in tables ROWS_16_1, ROWS_16_2, .. by the length of their vectors."""
+    answered = list(zip(cases, results(cases)))
+    print_head(tool, enum)
+    print_tables("ROWS", enum, answered)

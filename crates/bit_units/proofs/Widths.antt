@@ -1,29 +1,14 @@
--- Numbers by their width in bits: bounds, and zeros above and below.
-use Rattle.std.proofs.Common.{◌≡◌, ℕ, zero, suc, ◌+◌, ◌-◌, ◌*◌, ◌/◌, ◌%◌, ◌^◌, ◌<◌, ◌≤◌, min, ap, sym, ◌∙◌, arith}
-use Rattle.std.specs.Int.Count.{count_leading_zeros, count_trailing_zeros, leading_unique, under}
-use Rattle.std.proofs.Math.Nat.{pow-suc, div-eq_of_lt, mod-eq_of_lt}
-use Rattle.std.proofs.lemmas.Nat.{leading_length}
+-- Numbers by their width in bits: bounds, and zeros below.
+use Rattle.std.proofs.Common.{◌≡◌, ℕ, zero, suc, ◌/◌, ◌%◌, ◌^◌, ◌<◌, ◌≤◌, min, ap, sym, ◌∙◌, arith}
+use Rattle.std.specs.Int.Count.{count_trailing_zeros, under}
+use Rattle.std.proofs.Math.Nat.{div-eq_of_lt, mod-eq_of_lt}
 use Rattle.gpr_flags.proofs.Widths.{wider}
-
-pub below_power : (number : ℕ) → number < 2 ^ number
-below_power zero = omega arith
-below_power (suc number) = let less = below_power number in rw (pow-suc 2 number) (omega (arith, less))
-
-pub within_power : (number width : ℕ) → number ≤ width → number < 2 ^ width
-within_power number width within = let less = below_power width in omega (arith, less, within)
 
 pub none_above : (a width start : ℕ) → a < 2 ^ width → width ≤ start → 0 ≡ a / 2 ^ start
 none_above a width start less within = sym (div-eq_of_lt (wider a width start less within))
 
 pub whole_field : (a width count : ℕ) → a < 2 ^ width → width ≤ count → a ≡ a % 2 ^ count
 whole_field a width count less within = sym (mod-eq_of_lt (wider a width count less within))
-
-pub leading_within : (width more a : ℕ) → width ≤ more → a < 2 ^ width → more - width + count_leading_zeros width a ≡ count_leading_zeros more a
-leading_within width more a within less =
-    let digits = leading_length width a less in
-    let count : ℕ = digits.0 in
-    let sum : count_leading_zeros width a + count ≡ width = digits.1 in
-    leading_unique more a (more - width + count_leading_zeros width a) count (omega (arith, sum)) digits.2 digits.3
 
 under_within : (digit low count width : ℕ) → min count width ≡ low → min (under digit count) (suc width) ≡ under digit low
 under_within zero low count width is = omega (arith, is)

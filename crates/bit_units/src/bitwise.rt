@@ -10,12 +10,11 @@ use crate::numbers::masked;
 use crate::picking::{deposited, extracted};
 use crate::rotating::ror_value;
 use crate::scanning::{
-    bsf_value, bsr_value, leading_zeros, popcnt_flags, popcnt_value, scan_flags, trailing_zeros,
-    zeros_flags,
+    bsf_value, bsr_value, popcnt_flags, popcnt_value, scan_flags, trailing_zeros, zeros_flags,
 };
 use crate::shifting::{shl_value, shr_value};
 use crate::single_bits::{bt_flags, btc_value, btr_value, bts_value};
-use gpr_flags::{Flags, low, sar_value};
+use gpr_flags::{Flags, leading_zeros, low, sar_value};
 use row_table::{BitOp, CoreOp, Op};
 
 /// The value by operation.

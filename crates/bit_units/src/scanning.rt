@@ -3,19 +3,7 @@ ghost use Rattle.std.specs.Prelude.{◌≡◌, ◌-◌, ◌^◌, ◌<◌, ◌≤
 ghost use Rattle.std.specs.Int.Count.{count_leading_zeros, count_trailing_zeros};
 ghost use Rattle.bit_units.specs.Bits.{bsf_value as value_of_bsf, bsr_value as value_of_bsr, scan_flags as flags_of_scan, zeros_flags as flags_of_zeros, popcnt_flags as flags_of_popcnt};
 
-use gpr_flags::Flags;
-
-/// How many 0 bits there are above the highest 1 bit, LZCNT.
-pub(crate) fn leading_zeros(width: u32, b: u64) -> u64
-    requires some { 0 < width }
-    requires most { width ≤ 64 }
-    requires b { b < 2 ^ width }
-    ensures value { result ≡ count_leading_zeros width b }
-    ensures within { result ≤ width }
-    ensures fits { result < 2 ^ width }
-{
-    u64::from(b.leading_zeros() - (64 - width))
-}
+use gpr_flags::{Flags, leading_zeros};
 
 /// How many 0 bits there are below the lowest 1 bit, TZCNT.
 pub(crate) fn trailing_zeros(width: u32, b: u64) -> u64

@@ -3,7 +3,7 @@ use Rattle.std.specs.Prelude.{ℕ, ◌+◌, ◌-◌, ◌/◌, ◌%◌, ◌^◌, 
 use Rattle.gpr_flags.specs.declared.kinds.Fault.{Fault}
 use Rattle.gpr_flags.specs.declared.kinds.Fault.TheVariants.{Divide, Breakpoint, Undefined, General}
 use Rattle.gpr_flags.specs.declared.kinds.Flags.{Flags}
-use Rattle.gpr_flags.specs.Numbers.{is_negative, low_of}
+use Rattle.gpr_flags.specs.Numbers.{is_negative, low_of, low_half, high_half}
 use Rattle.gpr_flags.specs.Flags.{flags_word, flags_of, holds}
 use Rattle.row_table.specs.declared.operations.Op.{Op}
 use Rattle.row_table.specs.declared.operations.Op.TheVariants.{Core, Gpr, Bit, String, Lane, Cross, Width, Mac, Mask, Vector, Gather, Xsave}
@@ -14,7 +14,7 @@ use Rattle.row_table.specs.declared.operations.GprOp.TheVariants.{Add, Or, Adc, 
 use Rattle.row_table.specs.declared.operations.BitOp.{BitOp}
 use Rattle.row_table.specs.declared.operations.BitOp.TheVariants.{Rol, Ror, Rcl, Rcr, Shl, Shr, Sar, Shld, Shrd, Bt, Bts, Btr, Btc, Popcnt, Bsf, Tzcnt, Bsr, Lzcnt, Andn, Blsr, Blsmsk, Blsi, Bzhi, Pext, Pdep, Bextr, Shlx, Sarx, Shrx, Rorx}
 use Rattle.gpr_units.specs.Alu.{alu_value, alu_flags}
-use Rattle.gpr_units.specs.Multiply.{product_of, low_half, high_half, product_flags}
+use Rattle.gpr_units.specs.Multiply.{product_of, product_flags}
 use Rattle.gpr_units.specs.Divide.{is_refused, quotient_of, remainder_of}
 use Rattle.bit_units.specs.Shifts.{shift_value, shift_flags}
 use Rattle.bit_units.specs.Bits.{bits_value, bits_flags}

@@ -8,7 +8,7 @@ use Rattle.row_table.specs.declared.operations.CrossOp.{CrossOp}
 use Rattle.row_table.specs.declared.operations.CrossOp.TheVariants.{Punpckl, Punpckh, Packss, Packus, Pshufb, Pshufd, Pshufhw, Pshuflw, Palignr, Valign, Vperm, Vpermp, Vpermq, Vpermpd, Vpermi2, Vpermt2, Vpermilp, VpermilpIb, Shuf, Unpckl, Unpckh, Vshuf, Vperm2f128, Vperm2i128, Pblend, Blendp, Vpblend, Pblendv, Blendvp, Vpblendm, Broadcast, Broadcast2, Broadcast4, Broadcast8, Vpbroadcastm, Vpmovm2, Vpmov2m, Insert128, Insert256, Extract128, Extract256, Pinsr, Pextr, Insertps, InsertpsLoad, Extractps, Psrldq, Pslldq}
 use Rattle.gpr_flags.specs.Numbers.{has_bit, is_negative, signed_of}
 use Rattle.num_lanes.specs.Lane.{lane_of}
-use Rattle.num_lanes.specs.Ranges.{clamp_signed_of, clamp_unsigned_of}
+use Rattle.num_lanes.specs.Ranges.{clamp_signed_of, clamp_unsigned_of, ones_where}
 
 -- the operations of this crate: those that move lanes to other places, all of them
 unfoldable pub is_handled : Op → Bool
@@ -156,7 +156,7 @@ lane_raw Broadcast8 w n imm mask d a b low i = b (i % 8)
 -- VPBROADCASTM, VPMOVM2B/VPMOVM2W/VPMOVM2D/VPMOVM2Q, VPMOVB2M/VPMOVW2M/VPMOVD2M/VPMOVQ2M; the bits of the last are the signs of
 -- these lanes
 lane_raw Vpbroadcastm w n imm mask d a b low i = if w == 8 then low % 2 ^ 8 else low % 2 ^ 16
-lane_raw Vpmovm2 w n imm mask d a b low i = if has_bit low i then 2 ^ (8 * w) - 1 else 0
+lane_raw Vpmovm2 w n imm mask d a b low i = ones_where (8 * w) (has_bit low i)
 lane_raw Vpmov2m w n imm mask d a b low i = b i
 -- VINSERTF128/VINSERTF32x4/VINSERTF64x2/VINSERTF32x8/VINSERTF64x4 and VINSERTI128/.., VEXTRACTF128/.. and VEXTRACTI128/..
 lane_raw Insert128 w n imm mask d a b low i = inserted (per_block w) (imm % (n / per_block w)) a b i

@@ -17,14 +17,6 @@ pub(crate) fn choose(first: bool, a: u64, b: u64) -> u64
     if first { a } else { b }
 }
 
-/// All bits 1, or all 0.
-pub(crate) fn ones_where(bits: u32, holds: bool) -> u64
-    requires { bits ≤ 64 }
-    ensures { result ≡ (if holds then 2 ^ bits - 1 else 0) }
-{
-    if holds { (power(bits) - 1) as u64 } else { 0 }
-}
-
 /// The lane at a lane's place in another block.
 fn in_block<const W: usize>(block: usize, lane: usize) -> usize
     requires width { IsTrue (is_size W) }

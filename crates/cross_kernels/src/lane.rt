@@ -6,7 +6,7 @@ ghost use Rattle.cross_kernels.specs.CrossOps.{lane_raw};
 
 use crate::blocks::{
     block_count, block_left, block_right, by_named_block, by_named_half, choose, extracted,
-    inserted, ones_where, with_single,
+    inserted, with_single,
 };
 use crate::interleaving::{in_turn, wide_in_row};
 use crate::places::{
@@ -16,7 +16,7 @@ use crate::shuffles::{
     by_halves, by_lane, by_two_bits, lower_four, named_place, of_blocks, place_in, upper_four,
 };
 use gpr_flags::has_bit;
-use num_lanes::{clamp_signed, clamp_unsigned};
+use num_lanes::{clamp_signed, clamp_unsigned, ones_where};
 use row_table::CrossOp;
 
 /// What of an instruction counts for all lanes: its immediate, its mask, and the low 64 bits of the second operand.

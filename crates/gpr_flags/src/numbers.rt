@@ -1,5 +1,6 @@
 //! Numbers of so many bits, their bits and their sign, and whole numbers as bits in two's complement.
 ghost use Rattle.std.specs.Prelude.{◌≡◌, ◌%◌, ◌^◌, ◌<◌, ◌≤◌};
+ghost use Rattle.std.specs.Int.Count.{count_leading_zeros};
 ghost use Rattle.gpr_flags.specs.Numbers.{has_bit as has_bit_of, is_negative as is_negative_of, signed_of, low_of};
 
 /// 2 to the power of `exponent`.
@@ -35,6 +36,18 @@ pub fn is_negative(width: u32, number: u64) -> bool
     ensures { result ≡ is_negative_of width number }
 {
     has_bit(number, width - 1)
+}
+
+/// How many 0 bits there are above the highest 1 bit.
+pub fn leading_zeros(width: u32, b: u64) -> u64
+    requires some { 0 < width }
+    requires most { width ≤ 64 }
+    requires b { b < 2 ^ width }
+    ensures value { result ≡ count_leading_zeros width b }
+    ensures within { result ≤ width }
+    ensures fits { result < 2 ^ width }
+{
+    u64::from(b.leading_zeros() - (64 - width))
 }
 
 /// The number that `bits` bits are in two's complement.

@@ -1,9 +1,9 @@
--- Powers of two, and halves of numbers.
-use Rattle.std.proofs.Common.{◌≡◌, ℕ, suc, ◌+◌, ◌-◌, ◌*◌, ◌/◌, ◌%◌, ◌^◌, ◌<◌, ◌≤◌, ap, sym, ◌∙◌, arith}
-use Rattle.std.proofs.Math.Nat.{mul-le-mul_left, mul-suc, mul_comm, pow-le-pow_right}
-use Rattle.std.proofs.Math.Pow.{mod-mod-pow}
-use Rattle.std.proofs.lemmas.Nat.{pow-add, mod_below, mod-pow-add, div-mul-add, pow_below}
+-- Powers of two.
+use Rattle.std.proofs.Common.{◌≡◌, ℕ, suc, ◌+◌, ◌-◌, ◌*◌, ◌^◌, ◌<◌, ◌≤◌, ap, sym, ◌∙◌, arith}
+use Rattle.std.proofs.Math.Nat.{mul-suc, mul_comm, pow-le-pow_right}
+use Rattle.std.proofs.lemmas.Nat.{pow_below}
 use Rattle.gpr_flags.proofs.SignedBits.{power-some}
+use Rattle.gpr_flags.proofs.Widths.{power-double}
 
 pub one_small : (n : ℕ) → 0 < n → 1 < 2 ^ n
 one_small n h = pow_below 0 n h
@@ -11,26 +11,6 @@ one_small n h = pow_below 0 n h
 -- a half of at most 2 ^ 127
 pub half_wide-small : (n : ℕ) → n ≤ 64 → 2 ^ (2 * n - 1) ≤ 2 ^ 127
 half_wide-small n h = let p : 0 < 2 = omega arith in let q : 2 * n - 1 ≤ 127 = omega arith in pow-le-pow_right p q
-
-pub power-double : (n : ℕ) → 2 ^ (2 * n) ≡ 2 ^ n * 2 ^ n
-power-double n = let e : 2 * n ≡ n + n = omega arith in ap (λ k. 2 ^ k) e ∙ pow-add 2 n n
-
--- two halves are a number of twice as many bits
-pub joined-small : (n high low : ℕ) → high < 2 ^ n → low < 2 ^ n → high * 2 ^ n + low < 2 ^ (2 * n)
-joined-small n high low h l =
-    let m : 2 ^ n * suc high ≤ 2 ^ n * 2 ^ n = mul-le-mul_left (2 ^ n) h in
-    omega (arith, m, mul-suc (2 ^ n) high, mul_comm (2 ^ n) high, power-double n)
-
--- the halves of the low 2n bits of a number are in the number
-pub low-half : (n x : ℕ) → x % 2 ^ (2 * n) % 2 ^ n ≡ x % 2 ^ n
-low-half n x = let e : 2 * n ≡ n + n = omega arith in ap (λ k. x % 2 ^ k % 2 ^ n) e ∙ mod-mod-pow x n n
-
-pub high-half : (n x : ℕ) → x % 2 ^ (2 * n) / 2 ^ n ≡ x / 2 ^ n % 2 ^ n
-high-half n x =
-    let e : 2 * n ≡ n + n = omega arith in
-    let small : x % 2 ^ n < 2 ^ n = mod_below x (2 ^ n) (power-some n) in
-    ap (λ k. x % 2 ^ k / 2 ^ n) e ∙ ap (λ y. y / 2 ^ n) (mod-pow-add x n n)
-    ∙ div-mul-add (x / 2 ^ n % 2 ^ n) (2 ^ n) (x % 2 ^ n) small
 
 -- all 2n bits
 pub ones-joined : (n : ℕ) → (2 ^ n - 1) * 2 ^ n + (2 ^ n - 1) + 1 ≡ 2 ^ (2 * n)

@@ -1,38 +1,10 @@
 //! Products.
 ghost use Rattle.std.specs.Prelude.{◌≡◌, pos, ◌*◌, ◌<◌, ◌≤◌, ◌^◌, ◌*ℤ◌, true, false};
-ghost use Rattle.gpr_flags.specs.Numbers.{signed_of};
-ghost use Rattle.gpr_units.specs.Multiply.{product_of, low_half, high_half, product_flags};
+ghost use Rattle.gpr_flags.specs.Numbers.{signed_of, low_half, high_half};
+ghost use Rattle.gpr_units.specs.Multiply.{product_of, product_flags};
 
 use crate::numbers::{bits_in, cut, full, is_outside_signed};
-use gpr_flags::{Flags, low, signed as signed_number};
-
-fn signed_product(a: i64, b: i64) -> i128
-    ensures { result ≡ a *ℤ b }
-{
-    i128::from(a) * i128::from(b)
-}
-
-/// The halves of the low bits of a product, twice `bits` of them.
-fn halves(bits: u32, product: u128) -> (u64, u64)
-    requires { bits ≤ 64 }
-    ensures low { result.0 ≡ low_half bits (pos product) }
-    ensures high { result.1 ≡ high_half bits (pos product) }
-    ensures low_small { result.0 < 2 ^ bits }
-    ensures high_small { result.1 < 2 ^ bits }
-{
-    (low(bits, product), low(bits, product / full(bits)))
-}
-
-/// The same of a signed product.
-fn signed_halves(bits: u32, product: i128) -> (u64, u64)
-    requires { bits ≤ 64 }
-    ensures low { result.0 ≡ low_half bits product }
-    ensures high { result.1 ≡ high_half bits product }
-    ensures low_small { result.0 < 2 ^ bits }
-    ensures high_small { result.1 < 2 ^ bits }
-{
-    halves(bits, product.cast_unsigned())
-}
+use gpr_flags::{Flags, halves, signed as signed_number, signed_halves, signed_product};
 
 fn set_wide(is_wide: bool, f: &mut Flags)
     ensures { f.new ≡ record f.old { cf = is_wide; ovf = is_wide } }

@@ -6,22 +6,11 @@ ghost use Rattle.gpr_units.specs.Numbers.{is_outside};
 ghost use Rattle.gpr_units.specs.Divide.{dividend_of, divisor_of, quotient_of, remainder_of, is_refused};
 
 use crate::numbers::{bits_in, cut, full, is_outside_signed};
-use gpr_flags::{low, low_signed, signed as signed_number};
+use gpr_flags::{join, low, low_signed, signed as signed_number};
 
 /// The divisor is 0, or the quotient doesn't fit (#DE).
 #[derive(Clone, Copy)]
 pub struct DivFault;
-
-/// A number of twice as many bits, of its halves.
-fn join(bits: u32, high: u64, low: u64) -> u128
-    requires most { bits ≤ 64 }
-    requires high { high < 2 ^ bits }
-    requires low { low < 2 ^ bits }
-    ensures value { result ≡ high * 2 ^ bits + low }
-    ensures small { result < 2 ^ (2 * bits) }
-{
-    u128::from(high) * full(bits) + u128::from(low)
-}
 
 fn above_zero(number: u128) -> i128
     requires { number < 2 ^ 127 }

@@ -44,14 +44,6 @@ wrap64_sub n a b h q =
     let e : a + (2 ^ 64 - b) ≡ a + (2 ^ n - b) + 2 ^ n * (2 ^ (64 - n) - 1 - 0) = omega (arith, f, g) in
     wrap64 n (a + (2 ^ 64 - b)) h ∙ ap (λ x. x % 2 ^ n) e ∙ wrap_more n (a + (2 ^ n - b)) (2 ^ (64 - n) - 1 - 0)
 
-pub ones64 : (n : ℕ) → n ≤ 64 → (2 ^ 64 - 1) % 2 ^ n ≡ (2 ^ n - 1) % 2 ^ n
-ones64 n h =
-    let q : 0 < 2 ^ n = two-pow-pos n in
-    let f : 2 ^ n * 2 ^ (64 - n) ≡ 2 ^ 64 = split64 n h in
-    let g = less (2 ^ n) (2 ^ (64 - n)) 0 (two-pow-pos (64 - n)) in
-    let e : 2 ^ 64 - 1 ≡ 2 ^ n - 1 + 2 ^ n * (2 ^ (64 - n) - 1 - 0) = omega (arith, f, g) in
-    ap (λ x. x % 2 ^ n) e ∙ wrap_more n (2 ^ n - 1) (2 ^ (64 - n) - 1 - 0)
-
 pub wrap64_two : (n x y : ℕ) → n ≤ 64 → (x % 2 ^ 64 + y) % 2 ^ 64 % 2 ^ n ≡ (x + y) % 2 ^ n
 wrap64_two n x y h = ap (λ z. z % 2 ^ n) (mod-add-mod x (2 ^ 64) y) ∙ wrap64 n (x + y) h
 

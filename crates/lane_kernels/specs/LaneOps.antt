@@ -10,8 +10,7 @@ use Rattle.row_table.specs.declared.operations.LaneOp.TheVariants.{Padd, Psub, P
 use Rattle.gpr_flags.specs.Numbers.{is_negative, signed_of}
 use Rattle.gpr_flags.specs.Shifts.{sar_value, rotated}
 use Rattle.num_lanes.specs.Lane.{lane_of}
-pub use Rattle.num_lanes.specs.Lane.{IsLength}
-use Rattle.num_lanes.specs.Ranges.{clamp_signed_of, clamp_unsigned_of}
+use Rattle.num_lanes.specs.Ranges.{clamp_signed_of, clamp_unsigned_of, ones_where}
 
 -- the operations of this crate: the lane operations, all of them
 unfoldable pub is_handled : Op → Bool
@@ -29,10 +28,6 @@ is_handled (Gather op) = false
 is_handled (Xsave op) = false
 
 -- ---- words of the operations, over lanes of n bits
--- all bits 1, or all 0
-abbrev pub ones_where : (n : ℕ) → Bool → ℕ
-ones_where n holds = if holds then 2 ^ n - 1 else 0
-
 -- a number with the sign turned
 abbrev pub negated : (n a : ℕ) → ℕ
 negated n a = 2 ^ n - a

@@ -6,11 +6,8 @@ ghost use Rattle.lane_kernels.specs.LaneOps.{lane_raw};
 
 use crate::bitwise::ternary;
 use crate::shifts::{left, right, right_signed, rotated_left, rotated_right};
-use crate::sums::{
-    add_signed, choose, is_below, mean, ones_where, relates, subtract, subtract_signed,
-    with_sign_of,
-};
-use num_lanes::{clamp_unsigned, get_lane};
+use crate::sums::{choose, is_below, mean, relates, subtract, with_sign_of};
+use num_lanes::{add_signed, clamp_unsigned, get_lane, ones_where, subtract_signed};
 use row_table::LaneOp;
 
 /// What of an instruction counts for all lanes: its immediate, and the low 64 bits of the second operand.

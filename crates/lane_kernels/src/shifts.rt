@@ -2,8 +2,8 @@
 ghost use Rattle.std.specs.Prelude.{◌≡◌, ◌%◌, ◌^◌, ◌<◌, ◌≤◌};
 ghost use Rattle.lane_kernels.specs.LaneOps.{left as shifted_left, right as shifted_right, right_signed as shifted_signed, rotated_right as rotated_to_right, rotated_left as rotated_to_left};
 
-use crate::sums::ones_where;
 use gpr_flags::{is_negative, rotated_number, sar_value};
+use num_lanes::ones_where;
 
 /// To the left; a count not below the width leaves 0.
 pub(crate) fn left(bits: u32, a: u64, count: u64) -> u64

@@ -1,20 +1,9 @@
 //! Sums, differences, signs and compares of lanes. The numbers are below 2 to the power of their bits; of a result its low bits
 //! count.
-ghost use Rattle.std.specs.Prelude.{◌≡◌, ◌+◌, ◌/◌, ◌%◌, ◌^◌, ◌<◌, ◌≤◌, if◌then◌else◌, ◌+ℤ◌, ◌-ℤ◌};
-ghost use Rattle.gpr_flags.specs.Numbers.{signed_of};
-ghost use Rattle.num_lanes.specs.Ranges.{clamp_signed_of, clamp_unsigned_of};
-ghost use Rattle.lane_kernels.specs.LaneOps.{ones_where as ones_by, negated, is_below as is_below_of, with_sign_of as sign_taken, relates as relates_by};
+ghost use Rattle.std.specs.Prelude.{◌≡◌, ◌+◌, ◌/◌, ◌%◌, ◌^◌, ◌<◌, ◌≤◌, if◌then◌else◌};
+ghost use Rattle.lane_kernels.specs.LaneOps.{negated, is_below as is_below_of, with_sign_of as sign_taken, relates as relates_by};
 
 use gpr_flags::{is_negative, signed};
-use num_lanes::{clamp_signed, clamp_unsigned};
-
-/// All bits 1, or all 0.
-pub(crate) fn ones_where(bits: u32, holds: bool) -> u64
-    requires { bits ≤ 64 }
-    ensures { result % 2 ^ bits ≡ ones_by bits holds % 2 ^ bits }
-{
-    if holds { u64::MAX } else { 0 }
-}
 
 /// A difference.
 pub(crate) fn subtract(bits: u32, a: u64, b: u64) -> u64
@@ -23,34 +12,6 @@ pub(crate) fn subtract(bits: u32, a: u64, b: u64) -> u64
     ensures { result % 2 ^ bits ≡ (a + negated bits b) % 2 ^ bits }
 {
     a.wrapping_sub(b)
-}
-
-/// A sum with signed saturation.
-pub(crate) fn add_signed(bits: u32, a: u64, b: u64) -> u64
-    requires some { 0 < bits }
-    requires most { bits ≤ 64 }
-    requires a { a < 2 ^ bits }
-    requires b { b < 2 ^ bits }
-    ensures { result ≡ clamp_signed_of bits (signed_of bits a +ℤ signed_of bits b) }
-{
-    clamp_signed(
-        i128::from(signed(bits, a)) + i128::from(signed(bits, b)),
-        bits,
-    )
-}
-
-/// A difference with signed saturation.
-pub(crate) fn subtract_signed(bits: u32, a: u64, b: u64) -> u64
-    requires some { 0 < bits }
-    requires most { bits ≤ 64 }
-    requires a { a < 2 ^ bits }
-    requires b { b < 2 ^ bits }
-    ensures { result ≡ clamp_signed_of bits (signed_of bits a -ℤ signed_of bits b) }
-{
-    clamp_signed(
-        i128::from(signed(bits, a)) - i128::from(signed(bits, b)),
-        bits,
-    )
 }
 
 /// The mean, rounded up.

@@ -12,7 +12,7 @@ pub use components::{Components, Record};
 pub use lanes::{Vec64, get_lane, set_lane};
 pub use laws::lanes_law;
 pub use parts::Parts;
-pub use ranges::{clamp_signed, clamp_unsigned, sign};
+pub use ranges::{add_signed, clamp_signed, clamp_unsigned, ones_where, sign, subtract_signed};
 
 #[cfg(test)]
 mod tests;

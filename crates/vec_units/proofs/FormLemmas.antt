@@ -3,7 +3,7 @@ use Rattle.std.proofs.Common.{Bool, true, false, cond, ◌/◌, inl, inr, refl, 
 use Rattle.std.proofs.Math.Nat.{div-mul-le_self}
 use Rattle.row_table.specs.declared.kinds.Row.{Row}
 use Rattle.row_table.specs.declared.kinds.Fields.{Fields}
-use Rattle.lane_kernels.specs.LaneOps.{IsLength}
+use Rattle.num_lanes.specs.Lane.{IsLength}
 use Rattle.vec_units.specs.Form.{vector_len, form_of, FormFits, IsVectorRow}
 
 len-by : (any a b : Bool) → IsLength (cond any 16 (cond a 16 (cond b 32 64)))

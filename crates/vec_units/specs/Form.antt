@@ -7,7 +7,7 @@ use Rattle.row_table.specs.declared.kinds.Class.TheVariants.{Legacy, Vex, Evex}
 use Rattle.row_table.specs.declared.kinds.Row.{Row}
 use Rattle.row_table.specs.declared.kinds.Fields.{Fields}
 use Rattle.row_table.specs.Rows.{rows}
-use Rattle.lane_kernels.specs.LaneOps.{IsLength}
+use Rattle.num_lanes.specs.Lane.{IsLength}
 use Rattle.vec_units.specs.declared.forms.Form.{Form}
 use Rattle.vec_units.specs.Compute.{is_vector}
 

@@ -1,8 +1,7 @@
 //! An operation on all lanes, by the crate that has it.
 ghost use Rattle.std.specs.Prelude.{◌≡◌, length, IsTrue};
 ghost use Rattle.gpr_flags.specs.Registers.{is_size};
-ghost use Rattle.num_lanes.specs.Lane.{LanesAre};
-ghost use Rattle.lane_kernels.specs.LaneOps.{IsLength};
+ghost use Rattle.num_lanes.specs.Lane.{IsLength, LanesAre};
 ghost use Rattle.vec_units.specs.Compute.{is_vector, lane_by};
 
 use lane_kernels::apply;

@@ -1,5 +1,5 @@
 use Rattle.std.proofs.Common.{arith}
-use Rattle.bit_units.proofs.Widths.{within_power}
+use Rattle.gpr_flags.proofs.Widths.{within_power}
 use Rattle.bit_units.proofs.scanning.highest.Goals as goal
 
 pub returns-clause-fits : goal.returns-clause-fits

@@ -1,5 +1,6 @@
 use Rattle.std.proofs.Common.{arith}
-use Rattle.bit_units.proofs.Widths.{trailing_within, within_power}
+use Rattle.gpr_flags.proofs.Widths.{within_power}
+use Rattle.bit_units.proofs.Widths.{trailing_within}
 use Rattle.bit_units.proofs.scanning.trailing_zeros.Goals as goal
 
 pub returns-clause-value : goal.returns-clause-value

@@ -1,6 +1,0 @@
-use Rattle.std.proofs.Common.{arith}
-use Rattle.gpr_units.proofs.Bits.{joined-small}
-use Rattle.gpr_units.proofs.quotients.join.Goals as goal
-
-pub returns-clause-small : goal.returns-clause-small
-returns-clause-small c = grind (arith, joined-small c.args.bits c.args.high c.args.low c.requires.high c.requires.low)
