@@ -8,7 +8,7 @@ ghost use Rattle.cross_kernels.specs.CrossOps.{per_block as per_block_of, block_
 use crate::places::{
     block_of, lane_at, lane_count, of_both, one_bit, one_of, per_block, place_of, two_bits,
 };
-use gpr_flags::{has_bit, power};
+use gpr_flags::has_bit;
 
 /// One of two numbers.
 pub(crate) fn choose(first: bool, a: u64, b: u64) -> u64
