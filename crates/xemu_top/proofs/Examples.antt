@@ -1,6 +1,8 @@
 -- What the written command gives for small programs, computed: the sample program and its variants.
-use Rattle.std.proofs.Common.{◌≡◌, ℕ, List, [], ◌∷◌, Option, Some, None, refl, set}
+use Rattle.std.proofs.Common.{◌≡◌, ℕ, List, [], ◌∷◌, map, Option, Some, None, refl, set}
 use Rattle.std.specs.Option.{option_map}
+use Rattle.host_edge.specs.declared.outside.HostCall.{HostCall}
+use Rattle.host_edge.specs.declared.outside.HostCall.TheVariants.{Load, PutOut}
 use Rattle.machine_state.specs.Memory.{first_miss, bytes_at, allowed_run}
 use Rattle.machine_state.specs.State.{State}
 use Rattle.row_table.specs.Legacy.{legacy, one_byte, two_byte, three_byte}
@@ -29,10 +31,12 @@ use Rattle.core_step.specs.Alignment.{is_misaligned}
 use Rattle.core_step.specs.Act.{performed_as, performed, act}
 use Rattle.xemu_top.specs.declared.ends.End.{End}
 use Rattle.xemu_top.specs.declared.ends.End.TheVariants.{Exit, Killed, Budget, Image}
-use Rattle.xemu_top.specs.Call.{put_bytes, put_answer, called}
-use Rattle.xemu_top.specs.Step.{step}
-use Rattle.xemu_top.specs.Run.{run, Outside}
-use Rattle.xemu_top.specs.Command.{Outcome, command, image_fits, header_fits, sizes_fit, entry_of, image_memory, first_state, first_world, status_of}
+use Rattle.xemu_top.specs.Call.{put_bytes, put_answer, called, calls_in_call}
+use Rattle.xemu_top.specs.Step.{step, calls_in_step}
+use Rattle.xemu_top.specs.Run.{run}
+use Rattle.xemu_top.specs.Outside.{Outside}
+use Rattle.xemu_top.specs.Trail.{Piece, run_trail}
+use Rattle.xemu_top.specs.Command.{Outcome, command, trail, image_fits, header_fits, sizes_fit, entry_of, image_memory, first_state, first_world, status_of}
 
 -- the sample program: a header, eight instructions from byte 120 on, and `hello` with a line feed
 abbrev pub hello : List ℕ
@@ -98,6 +102,22 @@ hello-after_eight : shown (command 8 run_h (with_file hello))
     ≡ record { end = Exit 0; status = 0; output = hello_text; steps = Some 8 }
 unfolding command image_fits header_fits sizes_fit entry_of image_memory first_state first_world run step called put_bytes put_answer allowed_run first_miss bytes_at act fetched performed performed_as is_misaligned plan_of core_way instruction_of instruction_by operand_for operand_at core_roles gpr_roles base_of scaled_index offset_of address_of accesses_of first_fault value_of core_outcome gpr_outcome scalar_of alu_scalar outcome_of gprs_left byte_left seen scanned within_limit fields_at lead_at in_front after head_at escape_at shaped_head of_rex shape_at tail_at optional_at chunk_at fields_of number_of signed_of encoding_of spelled matched fits lock_fits operation_locks writes_rm layout_of letters rows legacy one_byte two_byte three_byte vex_rows vex_0f vex_0f38 vex_0f3a
 hello-after_eight = refl
+
+-- a piece of its work: the calls on the outside in it, and what stands on the output then
+pub record ShownPiece : Type 0 where
+  pub calls : List HostCall
+  pub output : List ℕ
+
+abbrev quiet : List ℕ → ShownPiece
+quiet output = record { calls = []; output = output }
+
+-- its work is the load and eight steps, of which the fifth puts the text
+hello-trail : map (λ (piece : Piece). let shown : ShownPiece = record { calls = piece.calls; output = piece.after.out } in shown)
+    (trail 1000000000000 run_h (with_file hello))
+    ≡ record { calls = Load 1 ∷ []; output = [] } ∷ quiet [] ∷ quiet [] ∷ quiet [] ∷ quiet []
+    ∷ record { calls = PutOut ∷ []; output = hello_text } ∷ quiet hello_text ∷ quiet hello_text ∷ quiet hello_text ∷ []
+unfolding command trail run_trail calls_in_step calls_in_call image_fits header_fits sizes_fit entry_of image_memory first_state first_world run step called put_bytes put_answer allowed_run first_miss bytes_at act fetched performed performed_as is_misaligned plan_of core_way instruction_of instruction_by operand_for operand_at core_roles gpr_roles base_of scaled_index offset_of address_of accesses_of first_fault value_of core_outcome gpr_outcome scalar_of alu_scalar outcome_of gprs_left byte_left seen scanned within_limit fields_at lead_at in_front after head_at escape_at shaped_head of_rex shape_at tail_at optional_at chunk_at fields_of number_of signed_of encoding_of spelled matched fits lock_fits operation_locks writes_rm layout_of letters rows legacy one_byte two_byte three_byte vex_rows vex_0f vex_0f38 vex_0f3a
+hello-trail = refl
 
 -- its first three bytes of code are 0F 58 C1, ADDPS, which no row has
 abbrev unsupported : List ℕ

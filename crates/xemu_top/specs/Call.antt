@@ -1,9 +1,11 @@
 -- System calls: the number and the answer are in rax, the arguments in rdi, rsi and rdx (System V ABI for AMD64, A.2.1).
-use Rattle.std.specs.Prelude.{ℕ, ◌-◌, ◌%◌, ◌^◌, ◌==◌, ◌++◌, Bool, if◌then◌else◌, List, [], Option, Some, None, is_none, min, slice_index, slice_set}
+use Rattle.std.specs.Prelude.{ℕ, ◌-◌, ◌%◌, ◌^◌, ◌==◌, ◌++◌, Bool, if◌then◌else◌, List, [], ◌∷◌, Option, Some, None, is_none, min, slice_index, slice_set}
 use Rattle.gpr_flags.specs.Registers.{RAX, RDX, RSI, RDI}
 use Rattle.machine_state.specs.declared.kinds.Kind.TheVariants.{Read}
 use Rattle.machine_state.specs.declared.kinds.GuestEnd.{GuestEnd}
 use Rattle.machine_state.specs.declared.kinds.GuestEnd.TheVariants.{Exit}
+use Rattle.host_edge.specs.declared.outside.HostCall.{HostCall}
+use Rattle.host_edge.specs.declared.outside.HostCall.TheVariants.{PutOut, PutErr}
 use Rattle.machine_state.specs.Memory.{page_size, Memory, first_miss, bytes_at}
 use Rattle.machine_state.specs.State.{State}
 use Rattle.machine_state.specs.World.{World, Descriptor, Input, Output, ErrorOutput, Opened}
@@ -71,13 +73,35 @@ write_to (Some Input) addr count w = record w { state = answered w.state bad_des
 write_to (Some (Opened file)) addr count w = record w { state = answered w.state bad_descriptor }
 write_to None addr count w = record w { state = answered w.state bad_descriptor }
 
+-- the calls on the outside in it: puts on its stream, where there are bytes to put
+abbrev pub calls_in_put : HostCall → List ℕ → List HostCall
+calls_in_put call [] = []
+calls_in_put call (byte ∷ bytes) = call ∷ []
+
+abbrev pub calls_in_write : Option Descriptor → ℕ → ℕ → World → List HostCall
+calls_in_write (Some Output) addr count w = calls_in_put PutOut (put_bytes w.state.memory addr count)
+calls_in_write (Some ErrorOutput) addr count w = calls_in_put PutErr (put_bytes w.state.memory addr count)
+calls_in_write (Some Input) addr count w = []
+calls_in_write (Some (Opened file)) addr count w = []
+calls_in_write None addr count w = []
+
 -- lengths above this count as this (MAX_RW_COUNT of Linux)
 abbrev pub longest_transfer : ℕ
 longest_transfer = 2 ^ 31 - page_size
 
--- write, call 1: of the descriptor only the low 32 bits count
+-- what a write goes to: of the descriptor only the low 32 bits count
+abbrev pub write_place : World → Option Descriptor
+write_place w = w.descriptors (rdi w.state % 2 ^ 32)
+
+abbrev pub write_count : State → ℕ
+write_count s = min (rdx s) longest_transfer
+
+-- write, call 1
 abbrev pub write_call : World → World
-write_call w = write_to (w.descriptors (rdi w.state % 2 ^ 32)) (rsi w.state) (min (rdx w.state) longest_transfer) w
+write_call w = write_to (write_place w) (rsi w.state) (write_count w.state) w
+
+abbrev pub calls_in_write_call : World → List HostCall
+calls_in_write_call w = calls_in_write (write_place w) (rsi w.state) (write_count w.state) w
 
 -- a system call, with rip, rcx and r11 as SYSCALL leaves them: write, exit (call 60, the status is the low 8 bits), and
 -- ENOSYS for every other number
@@ -86,3 +110,7 @@ called w =
     if rax w.state == 1 then goes_on (write_call w)
     else if rax w.state == 60 then ends (Exit (rdi w.state % 2 ^ 8)) w
     else goes_on (record w { state = answered w.state no_such_call })
+
+-- the calls on the outside in it: only a write makes any
+unfoldable pub calls_in_call : World → List HostCall
+calls_in_call w = if rax w.state == 1 then calls_in_write_call w else []

@@ -1,11 +1,12 @@
--- The command: from the words, the host's files and the input to the end, the output and the machine that is left.
+-- The command: from the words, the host's files and the input to the end, the output and the machine that is left, and the trail of
+-- its work.
 use Rattle.std.specs.Prelude.{◌≡◌, ℕ, ◌+◌, ◌-◌, ◌*◌, ◌/◌, ◌==◌, ◌≤◌, Bool, not, if◌then◌else◌, List, [], ◌∷◌, length, nat_lt, nat_le, nat_eq, ◌&&◌, Option, Some, None, slice_index, slice_index_or, take, drop, replicate, IsTrue}
 use Rattle.std.specs.Cmp.Lexicographic.{pointwise}
 use Rattle.std.specs.List.{list_any, starts_with}
 use Rattle.byteorder.specs.Endian.{little_number}
 use Rattle.machine_state.specs.declared.kinds.GuestEnd.{GuestEnd}
 use Rattle.host_edge.specs.declared.outside.HostCall.{HostCall}
-use Rattle.host_edge.specs.declared.outside.HostCall.TheVariants.{Load, Store, SwapOpen, SwapGet, SwapPut, Take, PutOut, PutErr}
+use Rattle.host_edge.specs.declared.outside.HostCall.TheVariants.{Load, PutOut, PutErr}
 use Rattle.machine_state.specs.Memory.{page_size, Memory}
 use Rattle.gpr_flags.specs.Flags.{no_flags}
 use Rattle.machine_state.specs.State.{State, initial_extended}
@@ -13,7 +14,9 @@ use Rattle.machine_state.specs.World.{World, default_action, no_alternate, first
 use Rattle.xemu_top.specs.declared.ends.End.{End}
 use Rattle.xemu_top.specs.declared.ends.End.TheVariants.{Exit, Killed, Budget, Words, Image, Host, Memory as NoMemory}
 use Rattle.xemu_top.specs.Call.{Ran}
-use Rattle.xemu_top.specs.Run.{run, Files, Outside, outside, MayStand}
+use Rattle.xemu_top.specs.Run.{run}
+use Rattle.xemu_top.specs.Outside.{Files, Outside, outside}
+use Rattle.xemu_top.specs.Trail.{Piece, run_trail}
 
 -- the budget of steps, where the command line names none
 abbrev pub default_budget : ℕ
@@ -174,30 +177,28 @@ command budget words on =
     if words_fit words then on_file budget (on.files (path_word words)) on
     else refused no_command on
 
--- what may stand where a put failed while an image's steps run
-abbrev pub StandsOnImage : ℕ → List ℕ → Outside → Outside → Type 0
-StandsOnImage budget bytes on now = IsTrue (image_fits bytes) × MayStand on.files (first_world bytes on) budget now
+-- ---- the trail: the same work, piece by piece
+-- the program's load, which changes nothing
+abbrev pub load_piece : Outside → Piece
+load_piece on = record { before = on; after = on; calls = Load 1 ∷ []; stores = None }
 
--- the same of the program's file, where the host has it
-abbrev pub StandsInRun : ℕ → Option (List ℕ) → Outside → Outside → Type 0
-StandsInRun budget None on now = ⊥
-StandsInRun budget (Some bytes) on now = StandsOnImage budget bytes on now
+abbrev pub image_trail : ℕ → List ℕ → Outside → List Piece
+image_trail budget bytes on = if image_fits bytes then run_trail on.files (first_world bytes on) budget else []
 
--- what may stand where a call failed: where the program's load did, all is as it was; where a put did, it was in a step.
--- No other call is made
-abbrev pub StandsOnFile : HostCall → ℕ → Option (List ℕ) → Outside → Outside → Type 0
-StandsOnFile (Load word) budget file on now = (word ≡ 1) × (now ≡ on)
-StandsOnFile PutOut budget file on now = StandsInRun budget file on now
-StandsOnFile PutErr budget file on now = StandsInRun budget file on now
-StandsOnFile (Store word) budget file on now = ⊥
-StandsOnFile SwapOpen budget file on now = ⊥
-StandsOnFile SwapGet budget file on now = ⊥
-StandsOnFile SwapPut budget file on now = ⊥
-StandsOnFile Take budget file on now = ⊥
+abbrev pub loaded_trail : ℕ → Option (List ℕ) → Outside → List Piece
+loaded_trail budget None on = []
+loaded_trail budget (Some bytes) on = image_trail budget bytes on
 
--- the same of a command: only words that fit lead to a call
-abbrev pub StandsAt : HostCall → ℕ → List (List ℕ) → Outside → Outside → Type 0
-StandsAt call budget words on now = IsTrue (words_fit words) × StandsOnFile call budget (on.files (path_word words)) on now
+abbrev pub file_trail : ℕ → Option (List ℕ) → Outside → List Piece
+file_trail budget file on = load_piece on ∷ loaded_trail budget file on
+
+-- words that don't fit lead to no work; else the program is loaded, and the steps of an image run
+unfoldable pub trail : ℕ → List (List ℕ) → Outside → List Piece
+trail budget words on = if words_fit words then file_trail budget (on.files (path_word words)) on else []
+
+-- the calls on the outside that commands make
+abbrev pub calls_made : List HostCall
+calls_made = Load 1 ∷ PutOut ∷ PutErr ∷ []
 
 -- the exit status of an end (128 and the signal for a guest that was killed, as a shell has it)
 abbrev pub status_of : End → ℕ

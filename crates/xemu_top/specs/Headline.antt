@@ -1,22 +1,20 @@
 -- The headline: a run of the command is the written machine's run. And the cause of each end.
-use Rattle.std.specs.Prelude.{◌≡◌, ℕ, ◌<◌, ◌^◌, Bool, true, false, List, Option, Some, None, IfSome, IsTrue}
+use Rattle.std.specs.Prelude.{◌≡◌, ℕ, ◌<◌, ◌^◌, ⊤, Bool, true, false, List, Option, Some, None, IsTrue}
 use Rattle.host_edge.specs.declared.outside.HostCall.{HostCall}
-use Rattle.host_edge.specs.declared.outside.HostCall.TheVariants.{Load, Store, SwapOpen, SwapGet, SwapPut, Take, PutOut, PutErr}
+use Rattle.host_edge.specs.declared.outside.HostCall.TheVariants.{Load}
 use Rattle.machine_state.specs.Memory.{Swap}
 use Rattle.machine_state.specs.State.{State}
-use Rattle.host_edge.specs.Causes.{Rose, Counts}
-use Rattle.host_edge.specs.Files.{Held}
 use Rattle.core_step.specs.declared.machine.Machine.{Machine}
-use Rattle.core_step.specs.Machine.{state_of}
 use Rattle.xemu_top.specs.declared.ends.End.{End}
 use Rattle.xemu_top.specs.declared.ends.End.TheVariants.{Exit, Killed, Budget, Words, Image, Host, Memory}
 use Rattle.xemu_top.specs.declared.ends.Ended.{Ended}
 use Rattle.xemu_top.specs.declared.ends.RunEnd.{RunEnd}
-use Rattle.xemu_top.specs.Run.{Files, Outside}
+use Rattle.xemu_top.specs.Outside.{Outside, Leaves}
+use Rattle.xemu_top.specs.Trail.{Piece, FailsOn}
 use Rattle.xemu_top.specs.declared.loading.Loaded.{Loaded}
 use Rattle.xemu_top.specs.declared.loading.Loaded.TheVariants.{Whole, Long, Failed}
-use Rattle.xemu_top.specs.Command.{Outcome, command, on_file, on_image, StandsAt, StandsOnFile, StandsOnImage, image_fits, no_command, no_image, status_of}
-use Rattle.xemu_top.specs.Following.{IsTold, end_from}
+use Rattle.xemu_top.specs.Command.{Outcome, command, trail, image_fits, no_command, no_image, status_of}
+use Rattle.xemu_top.specs.Following.{EachSwap, HasState, end_from}
 
 -- whether an end is the command's own, and no failure of the outside and no want of memory
 abbrev pub is_own : End → Bool
@@ -24,93 +22,35 @@ is_own (Host call) = false
 is_own Memory = false
 is_own other = true
 
--- the files of a host, where it tells them
-abbrev pub files_of : Option Held → Files
-files_of None = λ path. None
-files_of (Some held) = held.file
+-- a machine is left exactly where the written command leaves one, and has the state of that, where the swap holds this
+abbrev pub IsLeft : Swap → Option Machine → Option State → Type 0
+IsLeft swap None None = ⊤
+IsLeft swap (Some machine) (Some s) = HasState swap machine s
+IsLeft swap None (Some s) = ⊥
+IsLeft swap (Some machine) None = ⊥
 
--- what stands on the outside, as far as a host tells its files, a source its bytes, and two sinks what they were given
-pub record IsOutside (held : Option Held) (left out err : Option (List ℕ)) (on : Outside) : Type 0 where
-  pub files_are : IfSome held (λ held. on.files ≡ held.file)
-  pub left_is : IsTold left on.left
-  pub out_is : IsTold out on.out
-  pub err_is : IsTold err on.err
-
--- the state that a machine stands for, where the swap holds this
-abbrev pub state_left : Option Machine → Swap → Option State
-state_left None w = None
-state_left (Some machine) w = Some (state_of machine w)
-
--- the command ended as the written one does, and left its machine, whatever the swap holds, and its outside
+-- the command ended as the written one does, and left its machine and its outside
 pub record Gives (outcome : Outcome) (ended : Ended) (Stands : Outside → Type 0) : Type 0 where
   pub end : ended.end ≡ outcome.end
-  pub machine : (w : Swap) → state_left ended.machine w ≡ outcome.machine
+  pub machine : EachSwap (λ swap. IsLeft swap ended.machine outcome.machine)
   pub outside_is : Stands outcome.outside
 
--- something of this kind stands on the outside
-pub record Leaves (Stands May : Outside → Type 0) : Type 0 where
-  pub now : Outside
-  pub stands : Stands now
-  pub may : May now
-
--- the headline, with what then stands on the outside, as far as that is told: a command that ends by itself gives what the
--- written one gives; where a call on the outside failed, what stands is what the written one leaves on the way to its end;
--- where memory was wanting, nothing was done
-pub record Meets (budget : ℕ) (words : List (List ℕ)) (on : Outside) (ended : Ended) (Stands : Outside → Type 0) : Type 0 where
-  pub gives : IsTrue (is_own ended.end) → Gives (command budget words on) ended Stands
-  pub stands : (call : HostCall) → ended.end ≡ Host call → Leaves Stands (StandsAt call budget words on)
+-- an answer by an outcome and a trail, with what then stands on the outside, as far as that is told: an end of the command's own is
+-- the outcome; where a call on the outside failed, what stands is what may stand where it failed on the trail; where memory was
+-- wanting, nothing was done
+pub record MeetsWork (outcome : Outcome) (pieces : List Piece) (on : Outside) (ended : Ended) (Stands : Outside → Type 0) : Type 0 where
+  pub gives : IsTrue (is_own ended.end) → Gives outcome ended Stands
+  pub stands : (call : HostCall) → ended.end ≡ Host call → Leaves Stands (FailsOn pieces call)
   pub nothing : ended.end ≡ Memory → Stands on
 
--- the same from what a load found
-pub record MeetsFile (budget : ℕ) (file : Option (List ℕ)) (on : Outside) (ended : Ended) (Stands : Outside → Type 0) : Type 0 where
-  pub gives : IsTrue (is_own ended.end) → Gives (on_file budget file on) ended Stands
-  pub stands : (call : HostCall) → ended.end ≡ Host call → Leaves Stands (StandsOnFile call budget file on)
-  pub nothing : ended.end ≡ Memory → Stands on
-
--- the same from an image on, where no call is made but a put
-pub record MeetsImage (budget : ℕ) (bytes : List ℕ) (on : Outside) (ended : Ended) (Stands : Outside → Type 0) : Type 0 where
-  pub gives : IsTrue (is_own ended.end) → Gives (on_image budget bytes on) ended Stands
-  pub stands : (call : HostCall) → ended.end ≡ Host call → Leaves Stands (StandsOnImage budget bytes on)
-  pub nothing : ended.end ≡ Memory → Stands on
-
--- files and input are as they were, and output and error output as they are told
-pub record KeepsInput (on : Outside) (out err : Option (List ℕ)) (now : Outside) : Type 0 where
-  pub files_kept : now.files ≡ on.files
-  pub left_kept : now.left ≡ on.left
-  pub out_is : IsTold out now.out
-  pub err_is : IsTold err now.err
-
--- the counts of failed calls of a host, a source and two sinks
-pub record Tally : Type 0 where
-  pub host : Counts
-  pub take : ℕ
-  pub out : ℕ
-  pub err : ℕ
+-- the headline: the answer is by the written command's outcome and trail
+abbrev pub Meets : (budget : ℕ) → (words : List (List ℕ)) → (on : Outside) → Ended → (Outside → Type 0) → Type 0
+Meets budget words on = MeetsWork (command budget words on) (trail budget words on) on
 
 -- the call on the outside that an end names
 abbrev pub failed_call : End → Option HostCall
 failed_call (Host call) = Some call
 failed_call other = None
-
--- a call that failed has its count, which rose, and no other count changed; where none failed, none changed. The calls of the
--- swap, `store` and `take` aren't made
-abbrev pub IsCounted : Option HostCall → Tally → Tally → Type 0
-IsCounted None old new = new ≡ old
-IsCounted (Some (Load word)) old new =
-    (word ≡ 1) × Rose old.host.load new.host.load × (new ≡ record old { host = record old.host { load = new.host.load } })
-IsCounted (Some PutOut) old new = Rose old.out new.out × (new ≡ record old { out = new.out })
-IsCounted (Some PutErr) old new = Rose old.err new.err × (new ≡ record old { err = new.err })
-IsCounted (Some (Store word)) old new = ⊥
-IsCounted (Some SwapOpen) old new = ⊥
-IsCounted (Some SwapGet) old new = ⊥
-IsCounted (Some SwapPut) old new = ⊥
-IsCounted (Some Take) old new = ⊥
-
--- no count rose, where one that stands at its end counts as one that rose
-pub record NoneRose (old new : Tally) : Type 0 where
-  pub load : Rose old.host.load new.host.load → ⊥
-  pub out : Rose old.out new.out → ⊥
-  pub err : Rose old.err new.err → ⊥
 
 -- the end is a run's own, or want of memory
 abbrev pub is_run_or_memory : End → Bool

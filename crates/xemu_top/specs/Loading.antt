@@ -1,11 +1,14 @@
 -- What came of a load, and of the mapping of an image's pages.
-use Rattle.std.specs.Prelude.{◌≡◌, ℕ, false, List, Option, Some, None, if◌then◌else◌}
+use Rattle.std.specs.Prelude.{◌≡◌, ℕ, false, List, [], ◌∷◌, Option, Some, None, if◌then◌else◌}
 use Rattle.machine_state.specs.Memory.{Permissions}
-use Rattle.host_edge.specs.Causes.{Rose, Counts}
+use Rattle.host_edge.specs.declared.outside.HostCall.{HostCall}
+use Rattle.host_edge.specs.declared.outside.HostCall.TheVariants.{Load}
+use Rattle.host_edge.specs.Causes.{Counts}
 use Rattle.guest_pages.specs.Table.{perms_in}
 use Rattle.guest_pages.specs.Pages.{PagesValue, table_of}
 use Rattle.guest_pages.specs.Changes.{AllResident}
 use Rattle.xemu_top.specs.Command.{image_fits, in_image}
+use Rattle.xemu_top.specs.Tally.{Tally, IsCounted}
 use Rattle.xemu_top.specs.declared.loading.Loaded.{Loaded}
 use Rattle.xemu_top.specs.declared.loading.Loaded.TheVariants.{Whole, Long, Failed, Memory}
 
@@ -16,10 +19,17 @@ IsLoaded Long file = (bytes : List ℕ) × (file ≡ Some bytes) × (image_fits 
 IsLoaded Failed file = Unit {0}
 IsLoaded Memory file = Unit {0}
 
--- a load that failed has its count, and no other count changed
+-- the call that failed in the load of a word's path, if it did
+abbrev pub failed_load : ℕ → Loaded → Option HostCall
+failed_load word (Whole bytes) = None
+failed_load word Long = None
+failed_load word Failed = Some (Load word)
+failed_load word Memory = None
+
+-- a load that failed has its count, whatever word names its path
 abbrev pub LoadCaused : Loaded → Counts → Counts → Type 0
-LoadCaused Failed old new = Rose old.load new.load × (new ≡ record old { load = new.load })
-LoadCaused other old new = new ≡ old
+LoadCaused loaded old new =
+    (word : ℕ) (rest : Tally) → IsCounted (Load word ∷ []) (failed_load word loaded) (record rest { host = old }) (record rest { host = new })
 
 -- the permissions of the first `count` pages of an image, where no other page is mapped
 abbrev pub image_perms : ℕ → ℕ → Permissions

@@ -1,13 +1,14 @@
 -- One step: an instruction, or an attempt that raised a fault, with the system call's answer or the fault's signal.
-use Rattle.std.specs.Prelude.{ℕ, ◌+◌}
+use Rattle.std.specs.Prelude.{ℕ, ◌+◌, List, []}
 use Rattle.gpr_flags.specs.declared.kinds.Fault.{Fault}
 use Rattle.gpr_flags.specs.declared.kinds.Fault.TheVariants.{Divide, Breakpoint, Undefined, General, Page}
 use Rattle.machine_state.specs.declared.kinds.GuestEnd.TheVariants.{Killed}
+use Rattle.host_edge.specs.declared.outside.HostCall.{HostCall}
 use Rattle.machine_state.specs.World.{World}
 use Rattle.core_step.specs.declared.acted.Acted.{Acted}
 use Rattle.core_step.specs.declared.acted.Acted.TheVariants.{Done, Call, Trap, Need}
 use Rattle.core_step.specs.Act.{After, act}
-use Rattle.xemu_top.specs.Call.{Ran, goes_on, ends, called}
+use Rattle.xemu_top.specs.Call.{Ran, goes_on, ends, called, calls_in_call}
 
 -- the signal of a fault: SIGFPE, SIGTRAP, SIGILL, SIGSEGV (signal(7) of Linux; SDM volume 3, 6.15)
 abbrev pub signal_of : Fault → ℕ
@@ -35,3 +36,16 @@ after_part after w = after_act after.acted (record w { state = after.state })
 
 unfoldable pub step : World → Ran
 step w = after_part (act w.state) w
+
+-- the calls on the outside in a step: only its system call makes any
+abbrev pub calls_after_act : Acted → World → List HostCall
+calls_after_act Done w = []
+calls_after_act Call w = calls_in_call w
+calls_after_act (Trap fault) w = []
+calls_after_act (Need slot) w = []
+
+abbrev pub calls_after_part : After → World → List HostCall
+calls_after_part after w = calls_after_act after.acted (record w { state = after.state })
+
+unfoldable pub calls_in_step : World → List HostCall
+calls_in_step w = calls_after_part (act w.state) w

@@ -1,16 +1,14 @@
 //! The system calls of the guest.
-ghost use Rattle.std.specs.Prelude.{◌≡◌, ◌<◌, ◌≤◌, ◌+◌, ◌%◌, ◌^◌, None, Some, is_some, OnOk, OnErr};
+ghost use Rattle.std.specs.Prelude.{◌≡◌, ◌<◌, ◌≤◌, ◌+◌, ◌%◌, ◌^◌, None, Some, OnOk};
 ghost use Rattle.machine_state.specs.Memory.{page_size, Swap, bytes_at, first_miss};
+ghost use Rattle.machine_state.specs.State.{State};
 ghost use Rattle.machine_state.specs.World.{first_descriptors};
-ghost use Rattle.host_edge.specs.Causes.{Rose};
-ghost use Rattle.host_edge.specs.Streams.{Puts};
 ghost use Rattle.guest_pages.specs.Table.{blocked, perms_in};
 ghost use Rattle.guest_pages.specs.Pages.{table_of, byte_of};
 ghost use Rattle.guest_pages.specs.Changes.{AllResident};
-ghost use Rattle.core_step.specs.Machine.{state_of};
-ghost use Rattle.xemu_top.specs.Call.{answered, put_bytes, put_answer, write_call, write_to as write_to_spec, called, goes_on};
-ghost use Rattle.xemu_top.specs.Following.{WorksAs, sinks};
-ghost use Rattle.xemu_top.specs.Streams.{stream_of, descriptor_of};
+ghost use Rattle.xemu_top.specs.Call.{answered, put_bytes, put_answer, write_call, write_to as write_to_spec, called, goes_on, calls_in_write, calls_in_write_call, calls_in_call};
+ghost use Rattle.xemu_top.specs.Following.{EachSwap, HasState, KeepsPages, WorksAs, sinks};
+ghost use Rattle.xemu_top.specs.Streams.{Sends, stream_of, descriptor_of};
 
 use core_step::Machine;
 use gpr_flags::{RAX, RDI, RDX, RSI};
@@ -51,10 +49,8 @@ fn send_part<K: Sink>(pages: &Pages, addr: u64, len: usize, sink: &mut K) -> Res
     requires some { 0 < len }
     requires one_page { addr % page_size + len ≤ page_size }
     requires readable { blocked (table_of pages.now) Kind.Read addr len ≡ None }
-    ensures bytes { (w : Swap) → Puts (K.taken sink.old) (K.taken sink.new)
+    ensures { (w : Swap) → Sends (K.taken sink.old) (K.taken sink.new) (K.faults sink.old) (K.faults sink.new)
         (bytes_at (byte_of pages.now w) addr len) result }
-    ensures kept { OnOk result (K.faults sink.new ≡ K.faults sink.old) }
-    ensures rose { OnErr result (Rose (K.faults sink.old) (K.faults sink.new)) }
 {
     match pages.view(addr, len, Kind::Read) {
         Ok(bytes) => sink.put(bytes),
@@ -67,10 +63,8 @@ fn send<K: Sink>(pages: &Pages, addr: u64, count: u64, sink: &mut K) -> Result<(
     requires readable { first_miss (perms_in (table_of pages.now)) Kind.Read addr count ≡ None }
     requires resident { AllResident pages.now }
     requires low { 0 < count → addr + count ≤ 2 ^ 47 }
-    ensures bytes { (w : Swap) → Puts (K.taken sink.old) (K.taken sink.new)
+    ensures { (w : Swap) → Sends (K.taken sink.old) (K.taken sink.new) (K.faults sink.old) (K.faults sink.new)
         (bytes_at (byte_of pages.now w) addr count) result }
-    ensures kept { OnOk result (K.faults sink.new ≡ K.faults sink.old) }
-    ensures rose { OnErr result (Rose (K.faults sink.old) (K.faults sink.new)) }
 {
     let mut done = 0;
     while done < count {
@@ -86,9 +80,8 @@ fn send<K: Sink>(pages: &Pages, addr: u64, count: u64, sink: &mut K) -> Result<(
 }
 
 fn set_answer(machine: &mut Machine, value: u64)
-    ensures state { (w : Swap) → state_of machine.new w ≡ answered (state_of machine.old w) value }
-    ensures steps { machine.new.steps ≡ machine.old.steps }
-    ensures pages { machine.new.pages ≡ machine.old.pages }
+    ensures state { EachSwap (λ swap. (s : State) → HasState swap machine.old s → HasState swap machine.new (answered s value)) }
+    ensures keeps { KeepsPages machine.old machine.new }
 {
     machine.gprs.set(RAX, value);
 }
@@ -101,14 +94,12 @@ fn write_to<K: Sink>(
     sink: &mut K,
 ) -> Result<(), Failed>
     requires { AllResident machine.old.pages }
-    ensures state { OnOk result ((w : Swap) → state_of machine.new w
-        ≡ answered (state_of machine.old w) (put_answer (state_of machine.old w).memory addr count)) }
-    ensures steps { machine.new.steps ≡ machine.old.steps }
-    ensures pages { machine.new.pages ≡ machine.old.pages }
-    ensures bytes { (w : Swap) → Puts (K.taken sink.old) (K.taken sink.new)
-        (put_bytes (state_of machine.old w).memory addr count) result }
-    ensures kept { OnOk result (K.faults sink.new ≡ K.faults sink.old) }
-    ensures rose { OnErr result (Rose (K.faults sink.old) (K.faults sink.new)) }
+    ensures state { OnOk result (EachSwap (λ swap. (s : State) → HasState swap machine.old s
+        → HasState swap machine.new (answered s (put_answer s.memory addr count)))) }
+    ensures keeps { KeepsPages machine.old machine.new }
+    ensures sends { EachSwap (λ swap. (s : State) → HasState swap machine.old s
+        → Sends (K.taken sink.old) (K.taken sink.new) (K.faults sink.old) (K.faults sink.new)
+        (put_bytes s.memory addr count) result) }
 {
     match machine.pages.allowed(addr, count, Kind::Read) {
         Ok(()) => {}
@@ -136,11 +127,11 @@ fn write_stream<O: Sink, E: Sink>(
     err: &mut E,
 ) -> Result<Option<GuestEnd>, HostCall>
     requires { AllResident machine.old.pages }
-    ensures works { WorksAs (λ world. goes_on (write_to_spec (Some (descriptor_of stream)) addr count world)) machine.old machine.new
+    ensures works { WorksAs (λ world. goes_on (write_to_spec (Some (descriptor_of stream)) addr count world))
+        (calls_in_write (Some (descriptor_of stream)) addr count) machine.old machine.new
         (sinks (O.taken out.old) (O.faults out.old) (E.taken err.old) (E.faults err.old))
         (sinks (O.taken out.new) (O.faults out.new) (E.taken err.new) (E.faults err.new)) result }
-    ensures pages { machine.new.pages ≡ machine.old.pages }
-    ensures steps { machine.new.steps ≡ machine.old.steps }
+    ensures keeps { KeepsPages machine.old machine.new }
 {
     match stream {
         Stream::Output => match write_to(machine, addr, count, out) {
@@ -161,11 +152,10 @@ fn write<O: Sink, E: Sink>(
     err: &mut E,
 ) -> Result<Option<GuestEnd>, HostCall>
     requires { AllResident machine.old.pages }
-    ensures works { WorksAs (λ world. goes_on (write_call world)) machine.old machine.new
+    ensures works { WorksAs (λ world. goes_on (write_call world)) calls_in_write_call machine.old machine.new
         (sinks (O.taken out.old) (O.faults out.old) (E.taken err.old) (E.faults err.old))
         (sinks (O.taken out.new) (O.faults out.new) (E.taken err.new) (E.faults err.new)) result }
-    ensures pages { machine.new.pages ≡ machine.old.pages }
-    ensures steps { machine.new.steps ≡ machine.old.steps }
+    ensures keeps { KeepsPages machine.old machine.new }
 {
     let descriptor = machine.gprs.get(RDI);
     let addr = machine.gprs.get(RSI);
@@ -180,18 +170,17 @@ fn write<O: Sink, E: Sink>(
 }
 
 /// Answers the system call that the registers ask for, or says how the guest ended by it.
-#[tactic(auto, unfolding(crate::specs::Call::called))]
+#[tactic(auto, unfolding(crate::specs::Call::called, crate::specs::Call::calls_in_call))]
 pub(crate) fn answer_call<O: Sink, E: Sink>(
     machine: &mut Machine,
     out: &mut O,
     err: &mut E,
 ) -> Result<Option<GuestEnd>, HostCall>
     requires { AllResident machine.old.pages }
-    ensures works { WorksAs called machine.old machine.new
+    ensures works { WorksAs called calls_in_call machine.old machine.new
         (sinks (O.taken out.old) (O.faults out.old) (E.taken err.old) (E.faults err.old))
         (sinks (O.taken out.new) (O.faults out.new) (E.taken err.new) (E.faults err.new)) result }
-    ensures pages { machine.new.pages ≡ machine.old.pages }
-    ensures steps { machine.new.steps ≡ machine.old.steps }
+    ensures keeps { KeepsPages machine.old machine.new }
 {
     match machine.gprs.get(RAX) {
         1 => write(machine, out, err),

@@ -3,6 +3,7 @@
 
 mod calls;
 mod ends;
+mod laws;
 mod loading;
 mod running;
 #[cfg(test)]
@@ -10,4 +11,5 @@ mod tests;
 mod top;
 
 pub use ends::{End, Ended, ImageFault, WordFault};
+pub use laws::trail_law;
 pub use top::emulate;

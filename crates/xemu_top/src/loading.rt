@@ -1,12 +1,11 @@
 //! The load: from a path to the machine before its first step.
 ghost use Rattle.std.specs.Prelude.{◌≡◌, ◌<◌, ◌≤◌, ◌+◌, ◌*◌, ◌/◌, ◌^◌, ℕ, List, IsTrue, IfOk, OnErr, Some, length, take, vec_len, if◌then◌else◌, true, false};
 ghost use Rattle.machine_state.specs.Memory.{Swap};
-ghost use Rattle.host_edge.specs.Causes.{Counts, Rose};
 ghost use Rattle.host_edge.specs.Files.{Held};
 ghost use Rattle.guest_pages.specs.Pages.{byte_of, memory_of};
 ghost use Rattle.guest_pages.specs.Changes.{AllResident, IsBlank, KeepsSize};
-ghost use Rattle.core_step.specs.Machine.{state_of};
 ghost use Rattle.xemu_top.specs.Command.{image_fits as image_fits_spec, header_fits as header_fits_spec, sizes_fit as sizes_fit_spec, number_from as number_from_spec, first_state, image_memory, default_pages, longest_image};
+ghost use Rattle.xemu_top.specs.Following.{EachSwap, HasState};
 ghost use Rattle.xemu_top.specs.Loading.{IsLoaded, LoadCaused, AreMapped, image_perms};
 
 use byteorder::{ByteOrder, LittleEndian};
@@ -172,7 +171,7 @@ fn image_pages(alloc: Global, bytes: &[u8]) -> Result<Pages, AllocError>
 /// The machine before the first step of an image.
 pub(crate) fn first_machine(alloc: Global, bytes: &[u8]) -> Result<Machine, AllocError>
     requires { (121 ≤ length bytes.now) × (length bytes.now ≤ longest_image) }
-    ensures state { IfOk result (λ machine. (swap : Swap) → state_of machine swap ≡ first_state bytes.now) }
+    ensures state { IfOk result (λ machine. EachSwap (λ swap. HasState swap machine (first_state bytes.now))) }
     ensures steps { IfOk result (λ machine. machine.steps ≡ 0) }
     ensures resident { IfOk result (λ machine. AllResident machine.pages) }
     ensures limit { IfOk result (λ machine. length machine.pages.slots ≡ default_pages) }

@@ -4,8 +4,8 @@ ghost use Rattle.guest_pages.specs.Changes.{AllResident};
 ghost use Rattle.form_scan.specs.Shaped.{most_bytes};
 ghost use Rattle.x_decode.specs.Seeing.{IsDecoded};
 ghost use Rattle.core_step.specs.Act.{performed};
-ghost use Rattle.xemu_top.specs.Step.{step, after_part, signal_of as signal_of_fault};
-ghost use Rattle.xemu_top.specs.Following.{RunsAs, WorksAs, run_end as run_end_spec, sinks};
+ghost use Rattle.xemu_top.specs.Step.{step, after_part, calls_in_step, calls_after_part, signal_of as signal_of_fault};
+ghost use Rattle.xemu_top.specs.Following.{IsStep, RunsAs, WorksAs, run_end as run_end_spec, sinks};
 
 use crate::calls::answer_call;
 use crate::ends::RunEnd;
@@ -49,11 +49,11 @@ fn perform<O: Sink, E: Sink>(
     requires most { len ≤ most_bytes }
     requires room { machine.old.steps < 2 ^ 64 - 1 }
     requires resident { AllResident machine.old.pages }
-    ensures works { WorksAs (λ w. after_part (performed d.now len w.state) w) machine.old machine.new
+    ensures works { WorksAs (λ w. after_part (performed d.now len w.state) w) (λ w. calls_after_part (performed d.now len w.state) w)
+        machine.old machine.new
         (sinks (O.taken out.old) (O.faults out.old) (E.taken err.old) (E.faults err.old))
         (sinks (O.taken out.new) (O.faults out.new) (E.taken err.new) (E.faults err.new)) result }
-    ensures resident { AllResident machine.new.pages }
-    ensures steps { machine.new.steps ≡ machine.old.steps + 1 }
+    ensures is_step { IsStep machine.old machine.new }
 {
     match machine.perform(d, len) {
         Acted::Done => Ok(None),
@@ -76,11 +76,10 @@ fn turn<O: Sink, E: Sink>(
 ) -> Result<Option<GuestEnd>, HostCall>
     requires room { machine.old.steps < 2 ^ 64 - 1 }
     requires resident { AllResident machine.old.pages }
-    ensures works { WorksAs step machine.old machine.new
+    ensures works { WorksAs step calls_in_step machine.old machine.new
         (sinks (O.taken out.old) (O.faults out.old) (E.taken err.old) (E.faults err.old))
         (sinks (O.taken out.new) (O.faults out.new) (E.taken err.new) (E.faults err.new)) result }
-    ensures resident { AllResident machine.new.pages }
-    ensures steps { machine.new.steps ≡ machine.old.steps + 1 }
+    ensures is_step { IsStep machine.old machine.new }
 {
     match machine.fetch_by(cache) {
         Fetched::Instr(d, len) => perform(machine, d, *len, out, err),

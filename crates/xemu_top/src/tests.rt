@@ -276,6 +276,21 @@ fn words_that_do_not_fit_and_a_missing_file_are_refused(rt: HostRuntime) -> Resu
 }
 
 #[test]
+fn a_file_of_two_pages_that_is_no_image_is_refused(rt: HostRuntime) -> Result<(), Fail> {
+    let mut file = two_pages(rt.alloc())?;
+    file.push(0)?;
+    let left = run_command(rt.alloc(), ["run", "hello"], &file, WIDE, WIDE)?;
+    let no_image = End::Image(ImageFault {
+        number: 15,
+        place: 0,
+    });
+    assert_eq!(rt; left.ended.end, no_image);
+    assert_eq!(rt; left.ended.status, 65);
+    assert_eq!(rt; left.out.bytes().len(), 0);
+    Ok(())
+}
+
+#[test]
 fn a_failing_sink_ends_the_run_with_what_it_took(rt: HostRuntime) -> Result<(), Fail> {
     let alloc = rt.alloc();
     for (room, taken, text) in [
@@ -295,6 +310,19 @@ fn a_failing_sink_ends_the_run_with_what_it_took(rt: HostRuntime) -> Result<(), 
         assert_eq!(rt; left.err.bytes().len(), 0);
         assert_eq!(rt; steps_of(&left.ended), None);
     }
+    Ok(())
+}
+
+#[test]
+fn a_write_of_no_bytes_calls_no_sink(rt: HostRuntime) -> Result<(), Fail> {
+    let image = with_code(&write_code(1, 0));
+    let failing = Room {
+        bytes: 100,
+        fail: &[(1, 0)],
+    };
+    let left = run_command(rt.alloc(), ["run", "hello"], &image, failing, WIDE)?;
+    assert_eq!(rt; left.ended.end, End::Exit(0));
+    assert_eq!(rt; steps_of(&left.ended), Some(9));
     Ok(())
 }
 

@@ -1,10 +1,12 @@
 //! The command.
 ghost use Rattle.std.specs.Prelude.{◌≡◌, ◌≤◌, ◌^◌, ℕ, List, Option, IsSome, IsTrue, Some, None, false, is_some, length, map, string_bytes};
-ghost use Rattle.xemu_top.specs.Command.{words_fit as words_fit_spec, path_fits as path_fits_spec, path_word, image_fits as image_fits_spec, default_budget, status_of, HasSignal};
-ghost use Rattle.xemu_top.specs.Run.{Outside};
+ghost use Rattle.host_edge.specs.Files.{Held};
+ghost use Rattle.xemu_top.specs.Outside.{Outside, IsOutside, files_of};
+ghost use Rattle.xemu_top.specs.Command.{words_fit as words_fit_spec, path_fits as path_fits_spec, path_word, image_fits as image_fits_spec, on_image as on_image_spec, on_file, image_trail, file_trail, calls_made, default_budget, status_of, HasSignal};
+ghost use Rattle.xemu_top.specs.Tally.{IsCounted, NoneRose, tally};
 ghost use Rattle.xemu_top.specs.Loading.{IsLoaded};
-ghost use Rattle.xemu_top.specs.Following.{Course, HasRunSignal, IsTold, sinks};
-ghost use Rattle.xemu_top.specs.Headline.{Meets, MeetsFile, MeetsImage, IsAnswer, IsOutside, KeepsInput, AcceptsWords, EndsLoad, RefusesImage, Tally, IsCounted, NoneRose, IsImage, files_of, failed_after, failed_call, is_own, is_run_or_memory, RefusesWords, finished};
+ghost use Rattle.xemu_top.specs.Following.{Course, HasRunSignal, sinks};
+ghost use Rattle.xemu_top.specs.Headline.{Meets, MeetsWork, IsAnswer, AcceptsWords, EndsLoad, RefusesImage, IsImage, failed_after, failed_call, is_own, is_run_or_memory, RefusesWords, finished};
 
 use crate::ends::{End, Ended, ImageFault, RunEnd, WordFault};
 use crate::loading::{Loaded, first_machine, image_fits, load_file};
@@ -83,8 +85,10 @@ fn finish(end: RunEnd, machine: Machine) -> Ended
 
 /// Runs an image, or refuses it.
 fn on_image<O: Sink, E: Sink>(alloc: Global, bytes: &[u8], out: &mut O, err: &mut E) -> Ended
-    ensures meets { (on : Outside) → IsTold (O.taken out.old) on.out → IsTold (E.taken err.old) on.err
-        → MeetsImage default_budget bytes.now on result (KeepsInput on (O.taken out.new) (E.taken err.new)) }
+    ensures meets { (held : Option Held) (left : Option (List ℕ)) (on : Outside)
+        → IsOutside held left (O.taken out.old) (E.taken err.old) on
+        → MeetsWork (on_image_spec default_budget bytes.now on) (image_trail default_budget bytes.now on) on result
+        (IsOutside held left (O.taken out.new) (E.taken err.new)) }
     ensures refuses { RefusesImage (image_fits_spec bytes.now) result.end }
     ensures words { AcceptsWords result.end }
     ensures answer { IsAnswer result }
@@ -109,9 +113,10 @@ fn on_image<O: Sink, E: Sink>(alloc: Global, bytes: &[u8], out: &mut O, err: &mu
 
 /// Runs what a load gave, or refuses it.
 fn on_loaded<O: Sink, E: Sink>(alloc: Global, loaded: Loaded, out: &mut O, err: &mut E) -> Ended
-    ensures meets { (on : Outside) (file : Option (List ℕ)) → IsLoaded loaded file
-        → IsTold (O.taken out.old) on.out → IsTold (E.taken err.old) on.err
-        → MeetsFile default_budget file on result (KeepsInput on (O.taken out.new) (E.taken err.new)) }
+    ensures meets { (file : Option (List ℕ)) (held : Option Held) (left : Option (List ℕ)) (on : Outside)
+        → IsLoaded loaded file → IsOutside held left (O.taken out.old) (E.taken err.old) on
+        → MeetsWork (on_file default_budget file on) (file_trail default_budget file on) on result
+        (IsOutside held left (O.taken out.new) (E.taken err.new)) }
     ensures ends { EndsLoad loaded result.end }
     ensures words { AcceptsWords result.end }
     ensures answer { IsAnswer result }
@@ -143,17 +148,16 @@ pub fn emulate<H: Host, S: Source, O: Sink, E: Sink>(
         → IsOutside (H.holds host.old) (S.left input.old) (O.taken out.old) (E.taken err.old) on
         → Meets default_budget (map string_bytes words.now) on result
         (IsOutside (H.holds host.new) (S.left input.new) (O.taken out.new) (E.taken err.new)) }
-    ensures complete { IsSome (H.holds host.old)
-        → IsTrue (words_fit_spec (map string_bytes words.now))
+    ensures complete { IsTrue (words_fit_spec (map string_bytes words.now))
         → IsImage (files_of (H.holds host.old) (path_word (map string_bytes words.now)))
-        → NoneRose (record { host = H.faults host.old; take = S.faults input.old; out = O.faults out.old; err = E.faults err.old })
-        (record { host = H.faults host.new; take = S.faults input.new; out = O.faults out.new; err = E.faults err.new })
+        → NoneRose calls_made (tally (H.faults host.old) (S.faults input.old) (O.faults out.old) (E.faults err.old))
+        (tally (H.faults host.new) (S.faults input.new) (O.faults out.new) (E.faults err.new))
         → IsTrue (is_run_or_memory result.end) }
 
     // The causes, whatever the outside tells.
-    ensures cause { IsCounted (failed_call result.end)
-        (record { host = H.faults host.old; take = S.faults input.old; out = O.faults out.old; err = E.faults err.old })
-        (record { host = H.faults host.new; take = S.faults input.new; out = O.faults out.new; err = E.faults err.new }) }
+    ensures cause { IsCounted calls_made (failed_call result.end)
+        (tally (H.faults host.old) (S.faults input.old) (O.faults out.old) (E.faults err.old))
+        (tally (H.faults host.new) (S.faults input.new) (O.faults out.new) (E.faults err.new)) }
     ensures words { RefusesWords (length words.now) (words_fit_spec (map string_bytes words.now)) result.end }
     ensures too_many { 2 ^ 32 ≤ length words.now → result.end ≡ End.Memory }
     ensures status { result.status ≡ status_of result.end }

@@ -1,5 +1,6 @@
-use Rattle.std.proofs.Common.{◌∙◌, ◌+◌, ◌≤◌, sym, ap, refl, arith, append-nil, ℕ, List, [], ◌++◌}
+use Rattle.std.proofs.Common.{◌≡◌, ◌∙◌, ◌+◌, ◌≤◌, sym, ap, subst, refl, arith, append-nil, ℕ, List, [], ◌++◌}
 use Rattle.machine_state.specs.declared.kinds.Kind.TheVariants.{Read}
+use Rattle.machine_state.specs.Memory.{bytes_at}
 use Rattle.machine_state.proofs.MemoryLemmas.{bytes_at-zero, first_miss_part, length-bytes_at}
 use Rattle.host_edge.specs.Streams.{told}
 use Rattle.guest_pages.specs.Table.{perms_in}
@@ -25,25 +26,44 @@ send_part-requires-clause-readable g c =
 pub loop-done-preserved : goal.loop-done-preserved
 loop-done-preserved g c = record {
   within = omega arith;
-  tells = (c.in-Ok.ensures.bytes (λ page. [])).tells ∙ c.loop-done.invariant.tells;
+  tells = (c.in-Ok.ensures (λ page. [])).puts.tells ∙ c.loop-done.invariant.tells;
   sent = λ w tells.
       put-all (byte_of c.args.pages.now w) c.args.addr c.loop-done.done c.min-part.result _ _ _
       (c.loop-done.invariant.sent w tells)
-      ((c.in-Ok.ensures.bytes w).all (c.loop-done.invariant.tells ∙ tells));
-  kept = c.in-Ok.ensures.kept ∙ c.loop-done.invariant.kept;
+      ((c.in-Ok.ensures w).puts.all (c.loop-done.invariant.tells ∙ tells));
+  kept = (c.in-Ok.ensures (λ page. [])).kept ∙ c.loop-done.invariant.kept;
 }
 
-pub returns-in-Err-clause-bytes : goal.returns-in-Err-clause-bytes
-returns-in-Err-clause-bytes g c w =
-    let part = c.in-Err.ensures.bytes w in record {
-      tells = part.tells ∙ c.loop-done.invariant.tells;
-      all = tt;
-      front = λ tells.
-          let f = part.front (c.loop-done.invariant.tells ∙ tells) in
-          let le : f.0 ≤ c.min-part.result = omega (arith, f.1, length-bytes_at (byte_of c.args.pages.now w) (c.args.addr + c.loop-done.done) c.min-part.result) in (
-            c.loop-done.done + f.0,
-            omega (arith, le, length-bytes_at (byte_of c.args.pages.now w) c.args.addr c.args.count),
-            put-more (byte_of c.args.pages.now w) c.args.addr c.loop-done.done c.min-part.result c.args.count f.0 _ _ _
-                (omega arith) le (c.loop-done.invariant.sent w tells) f.2,
-          );
+pub returns-in-Err : goal.returns-in-Err
+returns-in-Err g c w =
+    let part = c.in-Err.ensures w in record {
+      puts = record {
+        tells = part.puts.tells ∙ c.loop-done.invariant.tells;
+        all = tt;
+        front = λ tells.
+            let f = part.puts.front (c.loop-done.invariant.tells ∙ tells) in
+            let le : f.0 ≤ c.min-part.result = omega (arith, f.1, length-bytes_at (byte_of c.args.pages.now w) (c.args.addr + c.loop-done.done) c.min-part.result) in (
+              c.loop-done.done + f.0,
+              omega (arith, le, length-bytes_at (byte_of c.args.pages.now w) c.args.addr c.args.count),
+              put-more (byte_of c.args.pages.now w) c.args.addr c.loop-done.done c.min-part.result c.args.count f.0 _ _ _
+                  (omega arith) le (c.loop-done.invariant.sent w tells) f.2,
+            );
+      };
+      kept = tt;
+      rose = rw c.loop-done.invariant.kept at part.rose;
+      some = omega (arith, length-bytes_at (byte_of c.args.pages.now w) c.args.addr c.args.count);
     }
+
+pub returns : goal.returns
+returns g c w = record {
+  puts = record {
+    tells = c.loop-done.invariant.tells;
+    all = λ tells.
+        subst (λ (n : ℕ). told (g.K.Sink.taken c.loop-done.sink) ≡ told (g.K.Sink.taken c.args.sink.now) ++ bytes_at (byte_of c.args.pages.now w) c.args.addr n)
+        (omega arith) (c.loop-done.invariant.sent w tells);
+    front = tt;
+  };
+  kept = c.loop-done.invariant.kept;
+  rose = tt;
+  some = tt;
+}

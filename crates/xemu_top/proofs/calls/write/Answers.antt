@@ -1,21 +1,45 @@
-use Rattle.std.proofs.Common.{subst, ◌%◌, ◌^◌}
-use Rattle.machine_state.specs.World.{World, first_descriptors}
-use Rattle.core_step.specs.Machine.{state_of}
-use Rattle.xemu_top.specs.Call.{goes_on}
-use Rattle.xemu_top.specs.Following.{Follows, Reaches, world_at}
-use Rattle.xemu_top.proofs.CallLemmas.{write_call-is, stream_of-some}
+use Rattle.std.proofs.Common.{◌%◌, ◌^◌, ◌∙◌, ap, min, refl, ℕ, List, None, Option, Ok}
+use Rattle.host_edge.specs.declared.outside.HostCall.{HostCall}
+use Rattle.machine_state.specs.World.{World, Descriptor, first_descriptors}
+use Rattle.xemu_top.specs.Call.{answered, bad_descriptor, goes_on, write_to, calls_in_write, rdx, rsi, write_count, write_place, longest_transfer}
+use Rattle.xemu_top.specs.Outside.{IsOutside}
+use Rattle.xemu_top.specs.Following.{Follows}
+use Rattle.xemu_top.proofs.CallLemmas.{by_arguments, no_stream, stream_of-some, write_place-is}
+use Rattle.xemu_top.proofs.FollowLemmas.{follows-whole}
+use Rattle.xemu_top.proofs.RunLemmas.{course-none}
 use Rattle.xemu_top.proofs.calls.write.Goals as goal
 
 pub returns-in-Some-clause-works : goal.returns-in-Some-clause-works
 returns-in-Some-clause-works g c = record {
-  follows = λ w base o e first out_is err_is.
-      let descriptor = stream_of-some (first_descriptors (c.get-descriptor.result % 2 ^ 32)) c.in-Some.stream c.in-Some.ensures in
-      subst (λ (x : World). Reaches (g.O.Sink.taken c.write_stream.new.out) (g.E.Sink.taken c.write_stream.new.err) base (state_of c.write_stream.new.machine w)
-      (Follows (world_at base (state_of c.args.machine.now w) o e) (goes_on x) c.write_stream.result))
-      (write_call-is base (state_of c.args.machine.now w) o e
-      c.get-descriptor.result c.get-addr.result c.min-count.result c.get.result _
-      first c.get-descriptor.ensures descriptor c.get-addr.ensures c.get.ensures c.min-count.ensures)
-      (c.write_stream.ensures.works.follows w base o e first out_is err_is);
+  follows = λ swap held left files from stands.
+      by_arguments
+      (λ (place : Option Descriptor) (addr count : ℕ). Follows (IsOutside held left (g.O.Sink.taken c.write_stream.new.out) (g.E.Sink.taken c.write_stream.new.err)) swap
+          c.write_stream.new.machine files from (goes_on (write_to place addr count from)) (calls_in_write place addr count from) c.write_stream.result)
+      _ (write_place from) _ (rsi from.state) _ (write_count from.state)
+      (write_place-is from _ c.get-descriptor.result _ stands.descriptors stands.state c.get-descriptor.ensures
+      (stream_of-some (first_descriptors (c.get-descriptor.result % 2 ^ 32)) c.in-Some.stream c.in-Some.ensures))
+      (c.get-addr.ensures ∙ ap rsi stands.state)
+      (c.min-count.ensures ∙ ap (λ (n : ℕ). min n longest_transfer) (c.get.ensures ∙ ap rdx stands.state))
+      (c.write_stream.ensures.works.follows swap held left files from stands);
   course = c.write_stream.ensures.works.course;
   signal = c.write_stream.ensures.works.signal;
+}
+
+pub returns-in-None-clause-works : goal.returns-in-None-clause-works
+returns-in-None-clause-works g c = record {
+  follows = λ swap held left files from stands.
+      by_arguments
+      (λ (place : Option Descriptor) (addr count : ℕ). Follows (IsOutside held left (g.O.Sink.taken c.args.out.now) (g.E.Sink.taken c.args.err.now)) swap
+          c.set_answer.new.machine files from (goes_on (write_to place addr count from)) (calls_in_write place addr count from) (Ok None))
+      (first_descriptors (c.get-descriptor.result % 2 ^ 32)) (write_place from) _ (rsi from.state) _ (write_count from.state)
+      (write_place-is from _ c.get-descriptor.result _ stands.descriptors stands.state c.get-descriptor.ensures refl)
+      refl refl
+      (no_stream
+      (λ (w : World) (calls : List HostCall). Follows (IsOutside held left (g.O.Sink.taken c.args.out.now) (g.E.Sink.taken c.args.err.now)) swap
+          c.set_answer.new.machine files from (goes_on w) calls (Ok None))
+      (first_descriptors (c.get-descriptor.result % 2 ^ 32)) (rsi from.state) (write_count from.state) from c.in-None.ensures
+      (follows-whole _ swap files from stands.descriptors stands.outside_is c.set_answer.new.machine (answered from.state bad_descriptor) None _
+      (c.set_answer.ensures.state swap from.state stands.state)));
+  course = course-none _;
+  signal = tt;
 }

@@ -1,7 +1,7 @@
 use Rattle.std.proofs.Common.{◌≤◌, ◌-◌, None}
 use Rattle.guest_pages.specs.Changes.{AllResident}
-use Rattle.xemu_top.specs.Following.{Course, LeadsTo, SinkPair, sinks}
-use Rattle.xemu_top.proofs.RunLemmas.{GoesOn}
+use Rattle.xemu_top.specs.Following.{Course, SinkPair, sinks}
+use Rattle.xemu_top.proofs.RunLemmas.{IsSoFar}
 use Rattle.xemu_top.proofs.running.run.Given as goal
 
 abbrev pub invariant-loop-machine : goal.invariant-loop-machine
@@ -11,8 +11,7 @@ invariant-loop-machine g l =
     record {
       within : l.machine.steps ≤ l.upto;
       resident : AllResident l.machine.pages;
-      goes_on : LeadsTo l.initial.machine l.machine before now
-          (λ from at. GoesOn from (l.upto - l.initial.machine.steps) at (l.upto - l.machine.steps));
+      so_far : IsSoFar l.initial.machine l.machine before now (l.upto - l.initial.machine.steps) (l.upto - l.machine.steps);
       course : Course before now None;
     }
 
