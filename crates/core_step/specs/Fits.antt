@@ -12,9 +12,10 @@ use Rattle.core_step.specs.declared.kinds.Plan.{Plan}
 use Rattle.core_step.specs.declared.kinds.Plan.TheVariants.{Plain, OnStrings, OnPair, OnVectors, Clears}
 use Rattle.core_step.specs.declared.kinds.Outcome.{Outcome}
 
--- the numbers of general registers have one bit above those in ModRM, SIB and the opcode (SDM volume 2, 2.2.1.2)
+-- the numbers of registers have one bit above those in ModRM, SIB and the opcode, and that in ModRM.reg two with EVEX (SDM volume 2,
+-- 2.2.1.2 and 2.7.2)
 pub record RegistersFit (f : Fields) : Type 0 where
-  pub r : f.r < 2
+  pub r : f.r < 4
   pub x : f.x < 2
   pub b : f.b < 2
 

@@ -181,10 +181,35 @@ is_scalar OpmaskReg = false
 is_scalar OpmaskRm = false
 is_scalar OpmaskVvvv = false
 
+-- what stands there is an opmask that a vector instruction gives
+abbrev pub is_opmask : Spot → Bool
+is_opmask NoSpot = false
+is_opmask Reg = false
+is_opmask Rm = false
+is_opmask Vvvv = false
+is_opmask OpcodeReg = false
+is_opmask AtRax = false
+is_opmask Cl = false
+is_opmask Memory = false
+is_opmask Offset = false
+is_opmask Immediate = false
+is_opmask Relative = false
+is_opmask One = false
+is_opmask VectorMemory = false
+is_opmask VectorReg = false
+is_opmask VectorRm = false
+is_opmask VectorVvvv = false
+is_opmask VectorImmediate = false
+is_opmask Xmm0 = false
+is_opmask OpmaskReg = true
+is_opmask OpmaskRm = false
+is_opmask OpmaskVvvv = false
+
 -- the destination and the second source have places, and so has the first, where it isn't the destination
 abbrev pub are_vectors_placed : Layout → Bool
 are_vectors_placed layout =
-    (is_vector (spots_of layout).destination || is_scalar (spots_of layout).destination)
+    (is_vector (spots_of layout).destination
+    || (is_scalar (spots_of layout).destination || is_opmask (spots_of layout).destination))
     && ((not (has_two_sources layout) || is_vector (spots_of layout).first)
     && (is_vector (spots_of layout).second || (is_scalar (spots_of layout).second || is_immediate (spots_of layout).second)))
 

@@ -255,7 +255,7 @@ fn operands_away(size: Size, number: u64) -> u64
 /// The same, by the register that has the bit's number.
 #[tactic(auto, unfolding(crate::specs::Operands::bit_offset))]
 fn bit_offset(size: Size, fields: &Fields, gprs: &Gprs) -> u64
-    requires { fields.now.r < 2 }
+    requires { fields.now.r < 4 }
     ensures { result ≡ bit_offset_of size fields.now gprs.now }
 {
     operands_away(size, sign_extended(size, gprs.get(reg(fields))))

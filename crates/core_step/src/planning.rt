@@ -12,7 +12,7 @@ ghost use Rattle.vec_units.specs.Form.{IsVectorRow};
 ghost use Rattle.vec_step.specs.Fits.{PlanFits as VectorPlanFits};
 ghost use Rattle.core_step.specs.Machine.{state_of};
 
-use crate::addressing::{address, is_memory, reg, rm, segment_base};
+use crate::addressing::{address, is_memory, segment_base, vector_reg, vector_rm};
 use crate::kinds::{Bases, ClearPlan, Instruction, Plan, Roles, StackUse};
 use crate::machine::Machine;
 use crate::operands::{
@@ -177,9 +177,9 @@ impl Machine {
         ensures { (w : Swap) → result ≡ places_of row.now d.now next (state_of self.now w) }
     {
         Places {
-            reg: reg(&d.fields),
+            reg: vector_reg(&d.fields),
             vvvv: d.fields.v,
-            rm: rm(&d.fields),
+            rm: vector_rm(&d.fields),
             memory: self.memory_in(row, d, next),
         }
     }
