@@ -162,7 +162,7 @@ vectors-touch : (row : Row) (d : Decoded) (next : ℕ) (s : State) → VectorPla
 unfolding vectors_of
 vectors-touch row d next s fits =
     near-touch (address_in row d next s) _
-    (vector-near row d.fields (places_of row d next s) next s.extended.k (address_in row d next s) (address-below row d next s)
+    (vector-near row d.fields (places_of row d next s) next s.extended (address_in row d next s) (address-below row d next s)
     (named-is (is_memory d.fields) (address_in row d next s)) fits)
 
 -- no access touches a page

@@ -280,8 +280,8 @@ abbrev pub combines : MaskOp → Instruction → (first second : ℕ) → Flags 
 combines op i first second flags = gives (logic_of (Mask op) (bits_in i.size) first second) i flags
 
 -- the same of an opmask shifted by the low byte of a count
-abbrev pub moves_bits : (left : Bool) → Instruction → (number count : ℕ) → Flags → Outcome
-moves_bits left i number count flags = gives (shift_of left (bits_in i.size) number (count % 256)) i flags
+abbrev pub shifts_opmask : (left : Bool) → Instruction → (number count : ℕ) → Flags → Outcome
+shifts_opmask left i number count flags = gives (shift_of left (bits_in i.size) number (count % 256)) i flags
 
 -- ZF and CF of a test; the other four that arithmetic sets are cleared (SDM volume 2, KORTESTW/.. and KTESTW/..)
 abbrev pub tests : MaskOp → Instruction → (a b : ℕ) → Flags → Outcome
@@ -306,8 +306,8 @@ mask_outcome Knot i a b c flags = combines Knot i b 0 flags
 mask_outcome Kmov i a b c flags = combines Kmov i b 0 flags
 mask_outcome Kortest i a b c flags = tests Kortest i a b flags
 mask_outcome Ktest i a b c flags = tests Ktest i a b flags
-mask_outcome Kshiftr i a b c flags = moves_bits false i b c flags
-mask_outcome Kshiftl i a b c flags = moves_bits true i b c flags
+mask_outcome Kshiftr i a b c flags = shifts_opmask false i b c flags
+mask_outcome Kshiftl i a b c flags = shifts_opmask true i b c flags
 
 abbrev pub outcome_by : Op → Instruction → (a b c : ℕ) → Flags → (steps : ℕ) → Outcome
 outcome_by (Core op) i a b c flags steps = core_outcome op i a b c flags steps

@@ -34,7 +34,7 @@ places_of row d next s = record {
 
 -- the instruction of a row and its fields
 unfoldable pub vectors_of : Row → Decoded → (next : ℕ) → State → VectorPlan
-vectors_of row d next s = vector_plan row d.fields (places_of row d next s) next s.extended.k
+vectors_of row d next s = vector_plan row d.fields (places_of row d next s) next s.extended
 
 -- the effect, by the bytes of memory
 abbrev pub vectors_effect : VectorPlan → Processor → (ℕ → ℕ) → Effect

@@ -5,7 +5,7 @@ ghost use Rattle.gpr_units.specs.Alu.{is_alu};
 ghost use Rattle.opmask_unit.specs.Opmasks.{is_width, is_combining, is_testing};
 ghost use Rattle.core_step.specs.Size.{bits_in, bytes_in};
 ghost use Rattle.core_step.specs.Fits.{OutcomeFits};
-ghost use Rattle.core_step.specs.Result.{reversed as reversed_to, sign_bits as sign_bits_of, counted_down as counted_down_to, passes as passes_of, gives as gives_of, jumps as jumps_of, loops as loops_of, pushes as pushes_of, pops as pops_of, exchanges_numbers, calls as calls_of, returns_to, calls_system as calls_system_of, counts as counts_of, breaks as breaks_of, loads_control as loads_control_of, exchanges_sum as exchanges_sum_of, compares as compares_of, multiplies as multiplies_of, multiplies_freely as multiplies_freely_of, computes as computes_of, picks as picks_of, divides as divides_of, shifts as shifts_of, scans as scans_of, core_outcome as core_outcome_of, gpr_outcome as gpr_outcome_of, bit_outcome as bit_outcome_of, combines as combines_of, moves_bits as moves_bits_of, tests as tests_of, mask_outcome as mask_outcome_of, outcome_of, faults as faults_of};
+ghost use Rattle.core_step.specs.Result.{reversed as reversed_to, sign_bits as sign_bits_of, counted_down as counted_down_to, passes as passes_of, gives as gives_of, jumps as jumps_of, loops as loops_of, pushes as pushes_of, pops as pops_of, exchanges_numbers, calls as calls_of, returns_to, calls_system as calls_system_of, counts as counts_of, breaks as breaks_of, loads_control as loads_control_of, exchanges_sum as exchanges_sum_of, compares as compares_of, multiplies as multiplies_of, multiplies_freely as multiplies_freely_of, computes as computes_of, picks as picks_of, divides as divides_of, shifts as shifts_of, scans as scans_of, core_outcome as core_outcome_of, gpr_outcome as gpr_outcome_of, bit_outcome as bit_outcome_of, combines as combines_of, shifts_opmask as shifts_opmask_of, tests as tests_of, mask_outcome as mask_outcome_of, outcome_of, faults as faults_of};
 
 use crate::acted::Acted;
 use crate::flags::with_low;
@@ -448,8 +448,8 @@ fn combines(op: MaskOp, i: &Instruction, first: u64, second: u64, f: Flags) -> O
 }
 
 /// An opmask shifted by a count.
-fn moves_bits(left: bool, i: &Instruction, number: u64, count: u64, f: Flags) -> Outcome
-    ensures { result ≡ moves_bits_of left i.now number count f }
+fn shifts_opmask(left: bool, i: &Instruction, number: u64, count: u64, f: Flags) -> Outcome
+    ensures { result ≡ shifts_opmask_of left i.now number count f }
 {
     let count = (count % 256) as u8;
     gives(shift_opmask(left, opmask_bits(i.size), number, count), i, f)
@@ -489,8 +489,8 @@ fn mask_outcome(op: MaskOp, i: &Instruction, a: u64, b: u64, c: u64, f: Flags) -
         | MaskOp::Kunpck => combines(op, i, c, b, f),
         MaskOp::Knot | MaskOp::Kmov => combines(op, i, b, 0, f),
         MaskOp::Kortest | MaskOp::Ktest => tests(op, i, a, b, f),
-        MaskOp::Kshiftr => moves_bits(false, i, b, c, f),
-        MaskOp::Kshiftl => moves_bits(true, i, b, c, f),
+        MaskOp::Kshiftr => shifts_opmask(false, i, b, c, f),
+        MaskOp::Kshiftl => shifts_opmask(true, i, b, c, f),
     }
 }
 
