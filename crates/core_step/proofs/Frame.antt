@@ -17,7 +17,7 @@ use Rattle.row_table.specs.Rows.{rows}
 use Rattle.string_unit.specs.Strings.{reads, writes, string_accesses, string_byte}
 use Rattle.core_step.specs.declared.sizes.Size.{Size}
 use Rattle.core_step.specs.declared.kinds.Operand.{Operand}
-use Rattle.core_step.specs.declared.kinds.Operand.TheVariants.{Absent, Register, HighByte, Memory as InMemory, Number, Mxcsr}
+use Rattle.core_step.specs.declared.kinds.Operand.TheVariants.{Absent, Register, HighByte, Memory as InMemory, Number, Mxcsr, Opmask}
 use Rattle.core_step.specs.declared.kinds.Use.{Use}
 use Rattle.core_step.specs.declared.kinds.Use.TheVariants.{Read as Reads, Write as Writes, Update}
 use Rattle.core_step.specs.declared.kinds.Instruction.{Instruction}
@@ -64,6 +64,7 @@ byte_after-spared (InMemory addr) size (Some number) byte at spared =
     (spared-write addr (bytes_in size) at [] spared)
 byte_after-spared (Number to) size (Some number) byte at spared = refl
 byte_after-spared Mxcsr size (Some number) byte at spared = refl
+byte_after-spared (Opmask to) size (Some number) byte at spared = refl
 
 -- a destination that is only read gets no number, and each other is accessed by a write
 number_for-spared : (usage : Use) (operand : Operand) (size : Size) (number : Option ℕ) (byte : ℕ → ℕ) (at : ℕ)

@@ -22,7 +22,7 @@ use Rattle.row_table.specs.Rows.{rows}
 use Rattle.string_unit.specs.Strings.{reads, writes, string_accesses, passed, compared, string_gprs, string_flags, string_byte}
 use Rattle.core_step.specs.declared.sizes.Size.{Size}
 use Rattle.core_step.specs.declared.kinds.Operand.{Operand}
-use Rattle.core_step.specs.declared.kinds.Operand.TheVariants.{Absent, Register, HighByte, Memory as InMemory, Number, Mxcsr}
+use Rattle.core_step.specs.declared.kinds.Operand.TheVariants.{Absent, Register, HighByte, Memory as InMemory, Number, Mxcsr, Opmask}
 use Rattle.core_step.specs.declared.kinds.Use.{Use}
 use Rattle.core_step.specs.declared.kinds.Use.TheVariants.{Read as Reads, Write as Writes, Update}
 use Rattle.core_step.specs.declared.kinds.Instruction.{Instruction}
@@ -110,6 +110,7 @@ value_of_same kind (InMemory addr) size p memory other agree =
     ap (little_number (bytes_in size)) (bytes_same access memory other (All-head (AgreeOn memory other) access [] agree))
 value_of_same kind (Number number) size p memory other agree = refl
 value_of_same kind Mxcsr size p memory other agree = refl
+value_of_same kind (Opmask number) size p memory other agree = refl
 
 -- where memories agree on the access of a destination, what stood there is the same; it counts only where it is read
 old_value_same : (usage : Use) (operand : Operand) (size : Size) (p : Processor) (memory other : Memory)
@@ -130,6 +131,7 @@ byte_after_same (HighByte to) size (Some number) byte other at same = same
 byte_after_same (InMemory addr) size (Some number) byte other at same = written_same byte other addr (number_bytes (bytes_in size) number) at same
 byte_after_same (Number to) size (Some number) byte other at same = same
 byte_after_same Mxcsr size (Some number) byte other at same = same
+byte_after_same (Opmask to) size (Some number) byte other at same = same
 
 -- an outcome keeps each byte the same that was the same
 byte_left_same : (i : Instruction) (o : Outcome) (byte other : ℕ → ℕ) (at : ℕ) → byte at ≡ other at

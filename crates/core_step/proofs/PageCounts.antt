@@ -15,7 +15,7 @@ use Rattle.string_unit.specs.Strings.{string_accesses}
 use Rattle.core_step.specs.declared.sizes.Size.{Size}
 use Rattle.core_step.specs.declared.sizes.Size.TheVariants.{Byte, Word, Double, Quad}
 use Rattle.core_step.specs.declared.kinds.Operand.{Operand}
-use Rattle.core_step.specs.declared.kinds.Operand.TheVariants.{Absent, Register, HighByte, Memory, Number, Mxcsr}
+use Rattle.core_step.specs.declared.kinds.Operand.TheVariants.{Absent, Register, HighByte, Memory, Number, Mxcsr, Opmask}
 use Rattle.core_step.specs.declared.kinds.Instruction.{Instruction}
 use Rattle.core_step.specs.declared.pair.PairPlan.{PairPlan}
 use Rattle.core_step.specs.declared.ways.Way.{Way}
@@ -104,6 +104,7 @@ operand-few kind (HighByte number) size = few-none 1
 operand-few kind (Memory addr) size = few-one _ (omega (arith, bytes-short size))
 operand-few kind (Number number) size = few-none 1
 operand-few kind Mxcsr size = few-none 1
+operand-few kind (Opmask number) size = few-none 1
 
 plain-few : (i : Instruction) → AreFew 2 (accesses_of i)
 unfolding accesses_of
@@ -161,7 +162,7 @@ vectors-touch : (row : Row) (d : Decoded) (next : ℕ) (s : State) → VectorPla
 unfolding vectors_of
 vectors-touch row d next s fits =
     near-touch (address_in row d next s) _
-    (vector-near row d.fields (places_of row d next s) next s.extended.k (address_in row d next s) (address-below row d next s)
+    (vector-near row d.fields (places_of row d next s) next s.extended (address_in row d next s) (address-below row d next s)
     (named-is (is_memory d.fields) (address_in row d next s)) fits)
 
 -- no access touches a page

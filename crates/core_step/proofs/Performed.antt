@@ -19,6 +19,8 @@ use Rattle.row_table.specs.declared.operations.GprOp.{GprOp}
 use Rattle.row_table.specs.declared.operations.GprOp.TheVariants.{Div, Idiv}
 use Rattle.row_table.specs.declared.operations.BitOp.{BitOp}
 use Rattle.row_table.specs.declared.operations.BitOp.TheVariants.{Rol}
+use Rattle.row_table.specs.declared.operations.MaskOp.{MaskOp}
+use Rattle.row_table.specs.declared.operations.MaskOp.TheVariants.{Kand}
 use Rattle.row_table.specs.Letters.{layout_of, letters}
 use Rattle.row_table.specs.Legacy.{legacy, one_byte, two_byte, three_byte}
 use Rattle.row_table.specs.Vex.{vex_rows, vex_0f, vex_0f38, vex_0f3a}
@@ -36,7 +38,7 @@ use Rattle.core_step.specs.Operands.{instruction_of, instruction_by, op_of}
 use Rattle.core_step.specs.Access.{acted_by_miss}
 use Rattle.core_step.specs.Strings.{strings_of, is_over, passed_over, iterated}
 use Rattle.core_step.specs.Plan.{core_way, way_of, plan_by, plan_of, next_of, effect_of}
-use Rattle.core_step.specs.Result.{gives, faults, core_outcome, gpr_outcome, bit_outcome, outcome_by, outcome_of}
+use Rattle.core_step.specs.Result.{gives, faults, core_outcome, gpr_outcome, bit_outcome, mask_outcome, outcome_by, outcome_of}
 use Rattle.core_step.specs.Effect.{Processor}
 use Rattle.core_step.specs.Plain.{outcome_in}
 use Rattle.core_step.specs.Performed.{core_performed, is_performed, are_placed, are_vectors_placed, suits, IsPerformed}
@@ -130,12 +132,18 @@ unfolding bit_outcome
 bit-defined Rol i a b c flags e = cc
 bit-defined op i a b c flags e = cc
 
+mask-defined : (op : MaskOp) (i : Instruction) (a b c : ℕ) (flags : Flags) → IsDefined (mask_outcome op i a b c flags).acted
+unfolding mask_outcome
+mask-defined Kand i a b c flags e = cc
+mask-defined op i a b c flags e = cc
+
 outcome-defined : (op : Op) (i : Instruction) (a b c : ℕ) (flags : Flags) (steps : ℕ) → IsPlain op
     → IsDefined (outcome_by op i a b c flags steps).acted
 unfolding is_performed
 outcome-defined (Core op) i a b c flags steps h = core-defined op i a b c flags steps h.0 h.1
 outcome-defined (Gpr op) i a b c flags steps h = gpr-defined op i a b c flags
 outcome-defined (Bit op) i a b c flags steps h = bit-defined op i a b c flags
+outcome-defined (Mask op) i a b c flags steps h = mask-defined op i a b c flags
 outcome-defined (String op) i a b c flags steps h = absurd (let clash : Strings op ≡ Numbers = h.1 in cc)
 outcome-defined (Lane op) i a b c flags steps h = absurd (let clash : Vectors ≡ Numbers = h.1 in cc)
 outcome-defined (Vector op) i a b c flags steps h = absurd (let clash : Vectors ≡ Numbers = h.1 in cc)

@@ -11,7 +11,7 @@ use Rattle.core_step.specs.declared.acted.Acted.{Acted}
 use Rattle.core_step.specs.declared.acted.Acted.TheVariants.{Trap, Need}
 use Rattle.core_step.specs.declared.sizes.Size.{Size}
 use Rattle.core_step.specs.declared.kinds.Operand.{Operand}
-use Rattle.core_step.specs.declared.kinds.Operand.TheVariants.{Absent, Register, HighByte, Memory, Number, Mxcsr}
+use Rattle.core_step.specs.declared.kinds.Operand.TheVariants.{Absent, Register, HighByte, Memory, Number, Mxcsr, Opmask}
 use Rattle.core_step.specs.declared.kinds.Use.{Use}
 use Rattle.core_step.specs.declared.kinds.Use.TheVariants.{Read as Reads, Write as Writes, Update}
 use Rattle.core_step.specs.declared.kinds.Instruction.{Instruction}
@@ -27,6 +27,7 @@ operand_access kind (Register number) size = []
 operand_access kind (HighByte number) size = []
 operand_access kind (Number number) size = []
 operand_access kind Mxcsr size = []
+operand_access kind (Opmask number) size = []
 
 -- an operand that is read and written is accessed once, by a write
 abbrev pub kind_of : Use → Kind

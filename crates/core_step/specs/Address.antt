@@ -3,6 +3,8 @@ use Rattle.std.specs.Prelude.{ℕ, ℤ, ◌+◌, ◌*◌, ◌/◌, ◌%◌, ◌^
 use Rattle.std.specs.Option.{unwrap_or}
 use Rattle.std.specs.Int.{w64, cast_unsigned}
 use Rattle.gpr_flags.specs.Registers.{RSP}
+use Rattle.row_table.specs.declared.kinds.Class.{Class}
+use Rattle.row_table.specs.declared.kinds.Class.TheVariants.{Legacy, Vex, Evex}
 use Rattle.row_table.specs.declared.kinds.Fields.{Fields}
 use Rattle.core_step.specs.declared.kinds.Bases.{Bases}
 
@@ -19,12 +21,27 @@ reg_of modrm = modrm / 8 % 8
 abbrev pub rm_of : ℕ → ℕ
 rm_of modrm = modrm % 8
 
--- the registers that ModRM and the opcode name, with REX.R and REX.B as their fourth bits (SDM volume 2, 2.2.1.2)
+-- the vector register in ModRM.reg, with R as the fourth bit of its number and R' of EVEX as the fifth (SDM volume 2, 2.7.2)
+abbrev pub vector_reg : Fields → ℕ
+vector_reg f = 8 * f.r + reg_of (modrm_of f)
+
+-- the registers that ModRM and the opcode name, with R and B as the fourth bits of their numbers, of which a general register has no
+-- more (SDM volume 2, 2.2.1.2)
 abbrev pub reg_number : Fields → ℕ
-reg_number f = 8 * f.r + reg_of (modrm_of f)
+reg_number f = vector_reg f % 16
 
 abbrev pub rm_number : Fields → ℕ
 rm_number f = 8 * f.b + rm_of (modrm_of f)
+
+-- X is the fifth bit with EVEX, and else none (SDM volume 2, 2.7.2)
+abbrev pub fifth_bit : Class → ℕ → ℕ
+fifth_bit Evex x = 16 * x
+fifth_bit Legacy x = 0
+fifth_bit Vex x = 0
+
+-- the vector register in ModRM.r/m
+abbrev pub vector_rm : Fields → ℕ
+vector_rm f = fifth_bit f.class f.x + rm_number f
 
 abbrev pub opcode_number : Fields → ℕ
 opcode_number f = 8 * f.b + f.opcode % 8

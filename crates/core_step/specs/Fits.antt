@@ -6,19 +6,20 @@ use Rattle.vec_step.specs.Fits.{PlanFits as VectorPlanFits}
 use Rattle.core_step.specs.declared.acted.Acted.{Acted}
 use Rattle.core_step.specs.declared.acted.Acted.TheVariants.{Done, Call, Trap, Need}
 use Rattle.core_step.specs.declared.kinds.Operand.{Operand}
-use Rattle.core_step.specs.declared.kinds.Operand.TheVariants.{Absent, Register, HighByte, Memory, Number, Mxcsr}
+use Rattle.core_step.specs.declared.kinds.Operand.TheVariants.{Absent, Register, HighByte, Memory, Number, Mxcsr, Opmask}
 use Rattle.core_step.specs.declared.kinds.Instruction.{Instruction}
 use Rattle.core_step.specs.declared.kinds.Plan.{Plan}
 use Rattle.core_step.specs.declared.kinds.Plan.TheVariants.{Plain, OnStrings, OnPair, OnVectors, Clears}
 use Rattle.core_step.specs.declared.kinds.Outcome.{Outcome}
 
--- the numbers of general registers have one bit above those in ModRM, SIB and the opcode (SDM volume 2, 2.2.1.2)
+-- the numbers of registers have one bit above those in ModRM, SIB and the opcode, and that in ModRM.reg two with EVEX (SDM volume 2,
+-- 2.2.1.2 and 2.7.2)
 pub record RegistersFit (f : Fields) : Type 0 where
-  pub r : f.r < 2
+  pub r : f.r < 4
   pub x : f.x < 2
   pub b : f.b < 2
 
--- the numbers of registers are below 16, and those of high bytes below 4
+-- the numbers of registers are below 16, those of high bytes below 4, and those of opmasks below 8
 abbrev pub OperandFits : Operand → Type 0
 OperandFits Absent = ⊤
 OperandFits (Register number) = number < 16
@@ -26,6 +27,7 @@ OperandFits (HighByte number) = number < 4
 OperandFits (Memory addr) = ⊤
 OperandFits (Number number) = ⊤
 OperandFits Mxcsr = ⊤
+OperandFits (Opmask number) = number < 8
 
 -- and a condition has one of sixteen numbers
 abbrev pub InstructionFits : Instruction → Type 0

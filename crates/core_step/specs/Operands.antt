@@ -20,14 +20,14 @@ use Rattle.core_step.specs.declared.sizes.Size.TheVariants.{Byte, Word, Double, 
 use Rattle.core_step.specs.declared.kinds.Part.{Part}
 use Rattle.core_step.specs.declared.kinds.Part.TheVariants.{Absent as NoPart, First, Second, Third, Bit, Address, Stack, Rax, Rcx, Rdx, Rbp, R11 as InR11, Ah, UpperHalf, Mxcsr as InMxcsr}
 use Rattle.core_step.specs.declared.kinds.Breadth.{Breadth}
-use Rattle.core_step.specs.declared.kinds.Breadth.TheVariants.{OfRow, OfStack, OfAddress}
+use Rattle.core_step.specs.declared.kinds.Breadth.TheVariants.{OfRow, OfStack, OfAddress, OfScalar}
 use Rattle.core_step.specs.declared.kinds.PartBreadth.{PartBreadth}
-use Rattle.core_step.specs.declared.kinds.PartBreadth.TheVariants.{Same, Letter, Quad as Quads, Half, Count}
+use Rattle.core_step.specs.declared.kinds.PartBreadth.TheVariants.{Same, Letter, Quad as Quads, Half, Count, InRow}
 use Rattle.core_step.specs.declared.kinds.StackUse.{StackUse}
 use Rattle.core_step.specs.declared.kinds.StackUse.TheVariants.{Aside, Pushes, Pops, Leaves}
 use Rattle.core_step.specs.declared.kinds.Roles.{Roles}
 use Rattle.core_step.specs.declared.kinds.Operand.{Operand}
-use Rattle.core_step.specs.declared.kinds.Operand.TheVariants.{Absent, Register, HighByte, Memory, Number, Mxcsr}
+use Rattle.core_step.specs.declared.kinds.Operand.TheVariants.{Absent, Register, HighByte, Memory, Number, Mxcsr, Opmask}
 use Rattle.core_step.specs.declared.kinds.Bases.{Bases}
 use Rattle.core_step.specs.declared.kinds.Instruction.{Instruction}
 use Rattle.core_step.specs.Size.{bytes_in, bits_in, half_of, cut, sign_extended}
@@ -53,7 +53,11 @@ immediate_of f =
     else if f.imm_len == 4 then sign_extended Double (cut Double f.imm)
     else f.imm
 
--- a place in the list of a row's operands; vectors and opmasks are no operands of these instructions
+-- an opmask; its number is below 8 (SDM volume 2, 2.7.3)
+abbrev pub opmask : ℕ → Operand
+opmask number = Opmask (number % 8)
+
+-- a place in the list of a row's operands; vectors are no operands of these instructions
 unfoldable pub operand_at : Spot → Size → Fields → ℤ → List ℕ → Bases → Operand
 operand_at NoSpot size f disp gprs bases = Absent
 operand_at Reg size f disp gprs bases = general size f (reg_number f)
@@ -74,9 +78,9 @@ operand_at VectorRm size f disp gprs bases = Absent
 operand_at VectorVvvv size f disp gprs bases = Absent
 operand_at VectorImmediate size f disp gprs bases = Absent
 operand_at Xmm0 size f disp gprs bases = Absent
-operand_at OpmaskReg size f disp gprs bases = Absent
-operand_at OpmaskRm size f disp gprs bases = Absent
-operand_at OpmaskVvvv size f disp gprs bases = Absent
+operand_at OpmaskReg size f disp gprs bases = opmask (reg_number f)
+operand_at OpmaskRm size f disp gprs bases = if is_memory f then Memory (address_of f disp gprs bases) else opmask (rm_number f)
+operand_at OpmaskVvvv size f disp gprs bases = opmask (vvvv_number f)
 
 -- ---- what an instruction does and how wide it is
 -- the operation; XCHG of rAX with itself, opcode 90, is the no-operation, and clears no upper half (SDM volume 2, NOP)
@@ -108,11 +112,16 @@ row_size row f =
     else if row.width == 64 then Quad
     else prefixed_size f
 
+-- 32 bits, or 64 with W: a general register beside vectors or opmasks (SDM volume 2, KMOVW/KMOVB/KMOVQ/KMOVD)
+abbrev pub scalar_size : Fields → Size
+scalar_size f = if f.w then Quad else Double
+
 -- the size of the destination
 abbrev pub size_by : Breadth → Row → Fields → Size
 size_by OfRow row f = row_size row f
 size_by OfStack row f = stack_size f
 size_by OfAddress row f = address_size f
+size_by OfScalar row f = scalar_size f
 
 -- 32 bits, or 16 with a 16-bit operand size (SDM volume 2, MOVSXD)
 abbrev pub double_or_less : Size → Size
@@ -131,13 +140,15 @@ letter_size Scalar size = size
 letter_size Limited size = size
 letter_size Vector size = size
 
--- the size of another operand than the destination: a place in the code and an address have 64 bits, and a count 8
-abbrev pub part_size : PartBreadth → Extent → Size → Size
-part_size Same letter size = size
-part_size Letter letter size = letter_size letter size
-part_size Quads letter size = Quad
-part_size Half letter size = half_of size
-part_size Count letter size = Byte
+-- the size of another operand than the destination, where the row has the size `own`: a place in the code and an address have 64
+-- bits, and a count 8
+abbrev pub part_size : PartBreadth → Extent → (own size : Size) → Size
+part_size Same letter own size = size
+part_size Letter letter own size = letter_size letter size
+part_size Quads letter own size = Quad
+part_size Half letter own size = half_of size
+part_size Count letter own size = Byte
+part_size InRow letter own size = own
 
 -- ---- products and quotients
 -- rDX, or AH, for the upper half or the remainder (SDM volume 2, MUL and DIV)
@@ -214,17 +225,17 @@ abbrev pub part_in : Part → Size → Roles → Layout → Size → Decoded →
 part_in part part_size roles layout size d next s =
     operand_for part part_size layout d (stack_at roles.stack size s.gprs) s.gprs (bases_for roles.stack size s next)
 
--- an instruction of this operation with these roles, whose destination has this size
-unfoldable pub instruction_by : Op → Roles → Layout → Size → Decoded → ℕ → State → Instruction
-instruction_by op roles layout size d next s = record {
+-- an instruction of this operation with these roles, whose row has the size `own` and whose destination has the other
+unfoldable pub instruction_by : Op → Roles → Layout → (own size : Size) → Decoded → ℕ → State → Instruction
+instruction_by op roles layout own size d next s = record {
   op = op;
   size = size;
   destination = part_in roles.destination size roles layout size d next s;
   usage = roles.usage;
-  source = part_in roles.source (part_size roles.source_breadth layout.second.size size) roles layout size d next s;
-  source_size = part_size roles.source_breadth layout.second.size size;
-  beside = part_in roles.beside (part_size roles.beside_breadth layout.third.size size) roles layout size d next s;
-  beside_size = part_size roles.beside_breadth layout.third.size size;
+  source = part_in roles.source (part_size roles.source_breadth layout.second.size own size) roles layout size d next s;
+  source_size = part_size roles.source_breadth layout.second.size own size;
+  beside = part_in roles.beside (part_size roles.beside_breadth layout.third.size own size) roles layout size d next s;
+  beside_size = part_size roles.beside_breadth layout.third.size own size;
   also = part_in roles.also size roles layout size d next s;
   condition = d.fields.opcode % 16;
   stack = stack_at roles.stack size s.gprs;
@@ -236,7 +247,7 @@ instruction_by op roles layout size d next s = record {
 -- an instruction of this operation
 abbrev pub instruction_with : Op → Roles → Layout → Row → Decoded → ℕ → State → Instruction
 instruction_with op roles layout row d next s =
-    instruction_by op roles layout (size_by roles.breadth row d.fields) d next s
+    instruction_by op roles layout (row_size row d.fields) (size_by roles.breadth row d.fields) d next s
 
 abbrev pub instruction_as : Op → Layout → Row → Decoded → ℕ → State → Instruction
 instruction_as op layout row d next s = instruction_with op (roles_of op layout) layout row d next s

@@ -79,43 +79,43 @@ is_performed (Lane op) = true
 is_performed (Cross op) = false
 is_performed (Width op) = false
 is_performed (Mac op) = false
-is_performed (Mask op) = false
+is_performed (Mask op) = true
 is_performed (Vector op) = true
 is_performed (Gather op) = false
 is_performed (Xsave op) = false
 
 -- ---- operands
--- what stands there is a general register, memory or a number
-abbrev pub is_general : Spot → Bool
-is_general NoSpot = false
-is_general Reg = true
-is_general Rm = true
-is_general Vvvv = true
-is_general OpcodeReg = true
-is_general AtRax = true
-is_general Cl = true
-is_general Memory = true
-is_general Offset = true
-is_general Immediate = true
-is_general Relative = true
-is_general One = true
-is_general VectorMemory = false
-is_general VectorReg = false
-is_general VectorRm = false
-is_general VectorVvvv = false
-is_general VectorImmediate = false
-is_general Xmm0 = false
-is_general OpmaskReg = false
-is_general OpmaskRm = false
-is_general OpmaskVvvv = false
+-- a number can stand there: in a general register, an opmask or memory, or by itself
+abbrev pub holds_number : Spot → Bool
+holds_number NoSpot = false
+holds_number Reg = true
+holds_number Rm = true
+holds_number Vvvv = true
+holds_number OpcodeReg = true
+holds_number AtRax = true
+holds_number Cl = true
+holds_number Memory = true
+holds_number Offset = true
+holds_number Immediate = true
+holds_number Relative = true
+holds_number One = true
+holds_number OpmaskReg = true
+holds_number OpmaskRm = true
+holds_number OpmaskVvvv = true
+holds_number VectorMemory = false
+holds_number VectorReg = false
+holds_number VectorRm = false
+holds_number VectorVvvv = false
+holds_number VectorImmediate = false
+holds_number Xmm0 = false
 
 -- the part has a place; a bit is in the first operand, and an address is that of the second
 abbrev pub has_place : Layout → Part → Bool
-has_place layout First = is_general layout.first.spot
-has_place layout Second = is_general layout.second.spot
-has_place layout Third = is_general layout.third.spot
-has_place layout Bit = is_general layout.first.spot
-has_place layout Address = is_general layout.second.spot
+has_place layout First = holds_number layout.first.spot
+has_place layout Second = holds_number layout.second.spot
+has_place layout Third = holds_number layout.third.spot
+has_place layout Bit = holds_number layout.first.spot
+has_place layout Address = holds_number layout.second.spot
 has_place layout Absent = true
 has_place layout Stack = true
 has_place layout Rax = true
@@ -181,10 +181,35 @@ is_scalar OpmaskReg = false
 is_scalar OpmaskRm = false
 is_scalar OpmaskVvvv = false
 
+-- what stands there is an opmask that a vector instruction gives
+abbrev pub is_opmask : Spot → Bool
+is_opmask NoSpot = false
+is_opmask Reg = false
+is_opmask Rm = false
+is_opmask Vvvv = false
+is_opmask OpcodeReg = false
+is_opmask AtRax = false
+is_opmask Cl = false
+is_opmask Memory = false
+is_opmask Offset = false
+is_opmask Immediate = false
+is_opmask Relative = false
+is_opmask One = false
+is_opmask VectorMemory = false
+is_opmask VectorReg = false
+is_opmask VectorRm = false
+is_opmask VectorVvvv = false
+is_opmask VectorImmediate = false
+is_opmask Xmm0 = false
+is_opmask OpmaskReg = true
+is_opmask OpmaskRm = false
+is_opmask OpmaskVvvv = false
+
 -- the destination and the second source have places, and so has the first, where it isn't the destination
 abbrev pub are_vectors_placed : Layout → Bool
 are_vectors_placed layout =
-    (is_vector (spots_of layout).destination || is_scalar (spots_of layout).destination)
+    (is_vector (spots_of layout).destination
+    || (is_scalar (spots_of layout).destination || is_opmask (spots_of layout).destination))
     && ((not (has_two_sources layout) || is_vector (spots_of layout).first)
     && (is_vector (spots_of layout).second || (is_scalar (spots_of layout).second || is_immediate (spots_of layout).second)))
 

@@ -3,12 +3,12 @@ use Rattle.std.specs.Prelude.{ℕ, ◌+◌, ◌/◌, ◌%◌, ◌^◌, List, Opt
 use Rattle.machine_state.specs.Memory.{written, number_at, number_bytes}
 use Rattle.machine_state.specs.State.{Extended}
 use Rattle.gpr_flags.specs.Registers.{RSP, with_register}
-use Rattle.num_lanes.specs.Setters.{with_mxcsr}
+use Rattle.num_lanes.specs.Setters.{with_mxcsr, with_k}
 use Rattle.core_step.specs.declared.acted.Acted.{Acted}
 use Rattle.core_step.specs.declared.acted.Acted.TheVariants.{Done}
 use Rattle.core_step.specs.declared.sizes.Size.{Size}
 use Rattle.core_step.specs.declared.kinds.Operand.{Operand}
-use Rattle.core_step.specs.declared.kinds.Operand.TheVariants.{Absent, Register, HighByte, Memory, Number, Mxcsr}
+use Rattle.core_step.specs.declared.kinds.Operand.TheVariants.{Absent, Register, HighByte, Memory, Number, Mxcsr, Opmask}
 use Rattle.core_step.specs.declared.kinds.Use.{Use}
 use Rattle.core_step.specs.declared.kinds.Use.TheVariants.{Read, Write, Update}
 use Rattle.core_step.specs.declared.kinds.Instruction.{Instruction}
@@ -26,6 +26,7 @@ register_value (HighByte number) size p = cut size (slice_index p.gprs number / 
 register_value (Memory addr) size p = 0
 register_value (Number number) size p = cut size number
 register_value Mxcsr size p = cut size p.extended.mxcsr
+register_value (Opmask number) size p = cut size (slice_index p.extended.k number)
 
 unfoldable pub value_of : Operand → Size → Processor → (ℕ → ℕ) → ℕ
 value_of (Memory addr) size p byte = number_at byte addr (bytes_in size)
@@ -34,6 +35,7 @@ value_of (Register number) size p byte = register_value (Register number) size p
 value_of (HighByte number) size p byte = register_value (HighByte number) size p
 value_of (Number number) size p byte = register_value (Number number) size p
 value_of Mxcsr size p byte = register_value Mxcsr size p
+value_of (Opmask number) size p byte = register_value (Opmask number) size p
 
 -- what stood in the destination; where it is only written, that doesn't count
 abbrev pub old_value : Use → Operand → Size → Processor → (ℕ → ℕ) → ℕ
@@ -49,6 +51,7 @@ gprs_with (HighByte to) size number gprs = slice_set gprs to (with_high_byte (sl
 gprs_with (Memory addr) size number gprs = gprs
 gprs_with (Number other) size number gprs = gprs
 gprs_with Mxcsr size number gprs = gprs
+gprs_with (Opmask to) size number gprs = gprs
 
 -- the registers with a number in an operand, where there is a number and the operand is a register
 abbrev pub gprs_after : Operand → Size → Option ℕ → List ℕ → List ℕ
@@ -62,25 +65,27 @@ byte_with (Register to) size number byte = byte
 byte_with (HighByte to) size number byte = byte
 byte_with (Number other) size number byte = byte
 byte_with Mxcsr size number byte = byte
+byte_with (Opmask to) size number byte = byte
 
 -- the bytes of memory with a number in an operand, where there is a number and the operand is in memory
 abbrev pub byte_after : Operand → Size → Option ℕ → (ℕ → ℕ) → ℕ → ℕ
 byte_after operand size None byte = byte
 byte_after operand size (Some number) byte = byte_with operand size number byte
 
--- MXCSR has sixteen bits (SDM volume 1, 10.2.3)
-abbrev pub extended_with : Operand → ℕ → Extended → Extended
-extended_with Mxcsr number extended = with_mxcsr (number % 2 ^ 16) extended
-extended_with Absent number extended = extended
-extended_with (Register to) number extended = extended
-extended_with (HighByte to) number extended = extended
-extended_with (Memory addr) number extended = extended
-extended_with (Number other) number extended = extended
+-- MXCSR has sixteen bits (SDM volume 1, 10.2.3), and an opmask is 0 above the number (SDM volume 2, KMOVW/KMOVB/KMOVQ/KMOVD)
+abbrev pub extended_with : Operand → Size → ℕ → Extended → Extended
+extended_with Mxcsr size number extended = with_mxcsr (number % 2 ^ 16) extended
+extended_with (Opmask to) size number extended = with_k to (cut size number) extended
+extended_with Absent size number extended = extended
+extended_with (Register to) size number extended = extended
+extended_with (HighByte to) size number extended = extended
+extended_with (Memory addr) size number extended = extended
+extended_with (Number other) size number extended = extended
 
 -- the extended state with a number in an operand, where there is a number and the operand is of that state
-abbrev pub extended_after : Operand → Option ℕ → Extended → Extended
-extended_after operand None extended = extended
-extended_after operand (Some number) extended = extended_with operand number extended
+abbrev pub extended_after : Operand → Size → Option ℕ → Extended → Extended
+extended_after operand size None extended = extended
+extended_after operand size (Some number) extended = extended_with operand size number extended
 
 -- the new rsp, where there is one
 abbrev pub gprs_stacked : Option ℕ → List ℕ → List ℕ
@@ -107,7 +112,7 @@ byte_left i o byte = byte_after i.destination i.size (destination_number i o) by
 
 -- what is written beside the destination is a general register
 unfoldable pub extended_left : Instruction → Outcome → Extended → Extended
-extended_left i o extended = extended_after i.destination (destination_number i o) extended
+extended_left i o extended = extended_after i.destination i.size (destination_number i o) extended
 
 -- only a completed instruction is counted
 abbrev pub steps_after : Acted → ℕ → ℕ

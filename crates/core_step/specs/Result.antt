@@ -13,11 +13,14 @@ use Rattle.row_table.specs.declared.operations.GprOp.{GprOp}
 use Rattle.row_table.specs.declared.operations.GprOp.TheVariants.{Add, Or, Adc, Sbb, And, Sub, Xor, Cmp, Test, Not, Neg, Inc, Dec, Mul, Imul, Div, Idiv, Mulx, Adcx, Adox}
 use Rattle.row_table.specs.declared.operations.BitOp.{BitOp}
 use Rattle.row_table.specs.declared.operations.BitOp.TheVariants.{Rol, Ror, Rcl, Rcr, Shl, Shr, Sar, Shld, Shrd, Bt, Bts, Btr, Btc, Popcnt, Bsf, Tzcnt, Bsr, Lzcnt, Andn, Blsr, Blsmsk, Blsi, Bzhi, Pext, Pdep, Bextr, Shlx, Sarx, Shrx, Rorx}
+use Rattle.row_table.specs.declared.operations.MaskOp.{MaskOp}
+use Rattle.row_table.specs.declared.operations.MaskOp.TheVariants.{Kand, Kandn, Kor, Kxnor, Kxor, Kadd, Kunpck, Knot, Kmov, Kortest, Ktest, Kshiftr, Kshiftl}
 use Rattle.gpr_units.specs.Alu.{alu_value, alu_flags}
 use Rattle.gpr_units.specs.Multiply.{product_of, product_flags}
 use Rattle.gpr_units.specs.Divide.{is_refused, quotient_of, remainder_of}
 use Rattle.bit_units.specs.Shifts.{shift_value, shift_flags}
 use Rattle.bit_units.specs.Bits.{bits_value, bits_flags}
+use Rattle.opmask_unit.specs.Opmasks.{logic_of, shift_of, zero_of, carry_of}
 use Rattle.core_step.specs.declared.acted.Acted.TheVariants.{Done, Call as Calls, Trap}
 use Rattle.core_step.specs.declared.sizes.Size.{Size}
 use Rattle.core_step.specs.declared.kinds.Instruction.{Instruction}
@@ -271,6 +274,41 @@ bit_outcome Sarx i a b c flags = picks Sarx i b c flags
 bit_outcome Shrx i a b c flags = picks Shrx i b c flags
 bit_outcome Rorx i a b c flags = picks Rorx i b c flags
 
+-- ---- opmasks
+-- a number of the size goes to the destination, by the first source and the second
+abbrev pub combines : MaskOp → Instruction → (first second : ℕ) → Flags → Outcome
+combines op i first second flags = gives (logic_of (Mask op) (bits_in i.size) first second) i flags
+
+-- the same of an opmask shifted by the low byte of a count
+abbrev pub shifts_opmask : (left : Bool) → Instruction → (number count : ℕ) → Flags → Outcome
+shifts_opmask left i number count flags = gives (shift_of left (bits_in i.size) number (count % 256)) i flags
+
+-- ZF and CF of a test; the other four that arithmetic sets are cleared (SDM volume 2, KORTESTW/.. and KTESTW/..)
+abbrev pub tests : MaskOp → Instruction → (a b : ℕ) → Flags → Outcome
+tests op i a b flags = passes i (record flags {
+  zf = zero_of (Mask op) (bits_in i.size) a b;
+  cf = carry_of (Mask op) (bits_in i.size) a b;
+  pf = false;
+  af = false;
+  sf = false;
+  ovf = false;
+})
+
+unfoldable pub mask_outcome : MaskOp → Instruction → (a b c : ℕ) → Flags → Outcome
+mask_outcome Kand i a b c flags = combines Kand i c b flags
+mask_outcome Kandn i a b c flags = combines Kandn i c b flags
+mask_outcome Kor i a b c flags = combines Kor i c b flags
+mask_outcome Kxnor i a b c flags = combines Kxnor i c b flags
+mask_outcome Kxor i a b c flags = combines Kxor i c b flags
+mask_outcome Kadd i a b c flags = combines Kadd i c b flags
+mask_outcome Kunpck i a b c flags = combines Kunpck i c b flags
+mask_outcome Knot i a b c flags = combines Knot i b 0 flags
+mask_outcome Kmov i a b c flags = combines Kmov i b 0 flags
+mask_outcome Kortest i a b c flags = tests Kortest i a b flags
+mask_outcome Ktest i a b c flags = tests Ktest i a b flags
+mask_outcome Kshiftr i a b c flags = shifts_opmask false i b c flags
+mask_outcome Kshiftl i a b c flags = shifts_opmask true i b c flags
+
 abbrev pub outcome_by : Op → Instruction → (a b c : ℕ) → Flags → (steps : ℕ) → Outcome
 outcome_by (Core op) i a b c flags steps = core_outcome op i a b c flags steps
 outcome_by (Gpr op) i a b c flags steps = gpr_outcome op i a b c flags
@@ -280,7 +318,7 @@ outcome_by (Lane op) i a b c flags steps = unperformed i flags
 outcome_by (Cross op) i a b c flags steps = unperformed i flags
 outcome_by (Width op) i a b c flags steps = unperformed i flags
 outcome_by (Mac op) i a b c flags steps = unperformed i flags
-outcome_by (Mask op) i a b c flags steps = unperformed i flags
+outcome_by (Mask op) i a b c flags steps = mask_outcome op i a b c flags
 outcome_by (Vector op) i a b c flags steps = unperformed i flags
 outcome_by (Gather op) i a b c flags steps = unperformed i flags
 outcome_by (Xsave op) i a b c flags steps = unperformed i flags

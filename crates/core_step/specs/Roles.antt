@@ -1,7 +1,7 @@
 -- What each operation does with its operands, by the page of the SDM's volume 2 that has it: where they stand, and what they are for.
 use Rattle.std.specs.Prelude.{Bool, true, false, if◌then◌else◌}
 use Rattle.row_table.specs.declared.kinds.Spot.{Spot}
-use Rattle.row_table.specs.declared.kinds.Spot.TheVariants.{Absent as NoSpot, Reg}
+use Rattle.row_table.specs.declared.kinds.Spot.TheVariants.{Absent as NoSpot, Reg, Rm}
 use Rattle.row_table.specs.declared.kinds.Layout.{Layout}
 use Rattle.row_table.specs.declared.operations.Op.{Op}
 use Rattle.row_table.specs.declared.operations.Op.TheVariants.{Core, Gpr, Bit as Bits, String, Lane, Cross, Width, Mac, Mask, Vector, Gather, Xsave}
@@ -11,12 +11,14 @@ use Rattle.row_table.specs.declared.operations.GprOp.{GprOp}
 use Rattle.row_table.specs.declared.operations.GprOp.TheVariants.{Add, Or, Adc, Sbb, And, Sub, Xor, Cmp, Test, Not, Neg, Inc, Dec, Mul, Imul, Div, Idiv, Mulx, Adcx, Adox}
 use Rattle.row_table.specs.declared.operations.BitOp.{BitOp}
 use Rattle.row_table.specs.declared.operations.BitOp.TheVariants.{Rol, Ror, Rcl, Rcr, Shl, Shr, Sar, Shld, Shrd, Bt, Bts, Btr, Btc, Popcnt, Bsf, Tzcnt, Bsr, Lzcnt, Andn, Blsr, Blsmsk, Blsi, Bzhi, Pext, Pdep, Bextr, Shlx, Sarx, Shrx, Rorx}
+use Rattle.row_table.specs.declared.operations.MaskOp.{MaskOp}
+use Rattle.row_table.specs.declared.operations.MaskOp.TheVariants.{Kand, Kandn, Kor, Kxnor, Kxor, Kadd, Kunpck, Knot, Kmov, Kortest, Ktest, Kshiftr, Kshiftl}
 use Rattle.core_step.specs.declared.kinds.Part.{Part}
 use Rattle.core_step.specs.declared.kinds.Part.TheVariants.{Absent, First, Second, Third, Bit, Address, Stack, Rax, Rcx, Rdx, Rbp, R11, Ah, UpperHalf, Mxcsr}
 use Rattle.core_step.specs.declared.kinds.Breadth.{Breadth}
-use Rattle.core_step.specs.declared.kinds.Breadth.TheVariants.{OfRow, OfStack, OfAddress}
+use Rattle.core_step.specs.declared.kinds.Breadth.TheVariants.{OfRow, OfStack, OfAddress, OfScalar}
 use Rattle.core_step.specs.declared.kinds.PartBreadth.{PartBreadth}
-use Rattle.core_step.specs.declared.kinds.PartBreadth.TheVariants.{Same, Letter, Quad, Half, Count}
+use Rattle.core_step.specs.declared.kinds.PartBreadth.TheVariants.{Same, Letter, Quad, Half, Count, InRow}
 use Rattle.core_step.specs.declared.kinds.StackUse.{StackUse}
 use Rattle.core_step.specs.declared.kinds.StackUse.TheVariants.{Aside, Pushes, Pops, Leaves}
 use Rattle.core_step.specs.declared.kinds.Use.TheVariants.{Read, Write, Update}
@@ -214,6 +216,38 @@ bit_roles Sarx layout = of_two Second Third
 bit_roles Shrx layout = of_two Second Third
 bit_roles Rorx layout = of_two Second Third
 
+-- ---- opmasks
+abbrev pub is_rm : Spot → Bool
+is_rm Rm = true
+is_rm spot = false
+
+-- a general register gets 32 bits, or 64 with W, of an opmask that is as wide as the row says; of one that is moved to an opmask the
+-- low bits count (SDM volume 2, KMOVW/KMOVB/KMOVQ/KMOVD)
+abbrev pub opmask_move : Layout → Roles
+opmask_move layout =
+    if is_reg layout.first.spot then wide_as OfScalar (writes First (from_as InRow Second idle))
+    else if is_rm layout.second.spot then writes First (from_as Quad Second idle)
+    else writes First (from Second idle)
+
+-- an opmask shifted by a count of 8 bits
+abbrev pub opmask_shift : Roles
+opmask_shift = record (writes First (from Second (beside Third idle))) { beside_breadth = Count }
+
+unfoldable pub mask_roles : MaskOp → Layout → Roles
+mask_roles Kand layout = of_two Third Second
+mask_roles Kandn layout = of_two Third Second
+mask_roles Kor layout = of_two Third Second
+mask_roles Kxnor layout = of_two Third Second
+mask_roles Kxor layout = of_two Third Second
+mask_roles Kadd layout = of_two Third Second
+mask_roles Kunpck layout = of_two Third Second
+mask_roles Knot layout = writes First (from Second idle)
+mask_roles Kmov layout = opmask_move layout
+mask_roles Kortest layout = reads First (from Second idle)
+mask_roles Ktest layout = reads First (from Second idle)
+mask_roles Kshiftr layout = opmask_shift
+mask_roles Kshiftl layout = opmask_shift
+
 -- ---- all
 -- operations on strings and on vectors have plans of their own
 abbrev pub roles_of : Op → Layout → Roles
@@ -225,7 +259,7 @@ roles_of (Lane op) layout = idle
 roles_of (Cross op) layout = idle
 roles_of (Width op) layout = idle
 roles_of (Mac op) layout = idle
-roles_of (Mask op) layout = idle
+roles_of (Mask op) layout = mask_roles op layout
 roles_of (Vector op) layout = idle
 roles_of (Gather op) layout = idle
 roles_of (Xsave op) layout = idle

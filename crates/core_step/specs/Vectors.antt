@@ -11,7 +11,7 @@ use Rattle.vec_step.specs.Left.{gprs_left, flags_left, extended_left, byte_left}
 use Rattle.core_step.specs.declared.acted.Acted.TheVariants.{Done}
 use Rattle.core_step.specs.declared.kinds.ClearPlan.{ClearPlan}
 use Rattle.core_step.specs.declared.kinds.StackUse.TheVariants.{Aside}
-use Rattle.core_step.specs.Address.{is_memory, reg_number, rm_number, address_of}
+use Rattle.core_step.specs.Address.{is_memory, vector_reg, vector_rm, address_of}
 use Rattle.core_step.specs.Operands.{row_size, bases_for}
 use Rattle.core_step.specs.Effect.{Processor, Effect}
 
@@ -23,18 +23,18 @@ address_in row d next s = address_of d.fields d.disp s.gprs (bases_for Aside (ro
 abbrev pub memory_in : Row → Decoded → (next : ℕ) → State → Option ℕ
 memory_in row d next s = if is_memory d.fields then Some (address_in row d next s) else None
 
--- what ModRM and vvvv name (SDM volume 2, 2.1.3 and 2.3.5.6)
+-- what ModRM and vvvv name (SDM volume 2, 2.1.3, 2.3.5.6 and 2.7.2); general registers and opmasks have the low bits of these numbers
 abbrev pub places_of : Row → Decoded → (next : ℕ) → State → Places
 places_of row d next s = record {
-  reg = reg_number d.fields;
+  reg = vector_reg d.fields;
   vvvv = d.fields.v;
-  rm = rm_number d.fields;
+  rm = vector_rm d.fields;
   memory = memory_in row d next s;
 }
 
 -- the instruction of a row and its fields
 unfoldable pub vectors_of : Row → Decoded → (next : ℕ) → State → VectorPlan
-vectors_of row d next s = vector_plan row d.fields (places_of row d next s) next s.extended.k
+vectors_of row d next s = vector_plan row d.fields (places_of row d next s) next s.extended
 
 -- the effect, by the bytes of memory
 abbrev pub vectors_effect : VectorPlan → Processor → (ℕ → ℕ) → Effect

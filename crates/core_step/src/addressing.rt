@@ -1,10 +1,10 @@
 //! The effective address of a memory operand, and the registers that an instruction names.
-ghost use Rattle.std.specs.Prelude.{◌≡◌, ◌<◌, ◌%◌, ◌^◌};
-ghost use Rattle.core_step.specs.Address.{modrm_of, mod_of, is_memory as names_memory, reg_number, rm_number, opcode_number, sib_of, has_sib as has_sib_byte, sib_index, sib_base, scale_of, register_for, base_of, scaled_index as index_of, wrapped, offset_of, segment_base as base_of_segment, in_segment as segmented, address_of};
+ghost use Rattle.std.specs.Prelude.{◌≡◌, ◌<◌, ◌≤◌, ◌%◌, ◌^◌};
+ghost use Rattle.core_step.specs.Address.{modrm_of, mod_of, is_memory as names_memory, vector_reg as vector_reg_of, reg_number, rm_number, fifth_bit as fifth_bit_of, vector_rm as vector_rm_of, opcode_number, sib_of, has_sib as has_sib_byte, sib_index, sib_base, scale_of, register_for, base_of, scaled_index as index_of, wrapped, offset_of, segment_base as base_of_segment, in_segment as segmented, address_of};
 
 use crate::kinds::Bases;
 use gpr_flags::{Gprs, RSP};
-use row_table::Fields;
+use row_table::{Class, Fields};
 
 /// The ModRM byte, or 0.
 pub(crate) fn modrm(fields: &Fields) -> u8
@@ -20,22 +20,52 @@ pub(crate) fn is_memory(fields: &Fields) -> bool
     modrm(fields) / 64 < 3
 }
 
-/// The register in ModRM.reg.
-pub(crate) fn reg(fields: &Fields) -> u8
-    requires { fields.now.r < 2 }
-    ensures number { result ≡ reg_number fields.now }
-    ensures fits { result < 16 }
+/// The vector register in ModRM.reg.
+pub(crate) fn vector_reg(fields: &Fields) -> u8
+    requires { fields.now.r < 4 }
+    ensures number { result ≡ vector_reg_of fields.now }
+    ensures fits { result < 32 }
 {
     8 * fields.r + modrm(fields) / 8 % 8
 }
 
-/// The register in ModRM.r/m.
+/// The general register in ModRM.reg.
+pub(crate) fn reg(fields: &Fields) -> u8
+    requires { fields.now.r < 4 }
+    ensures number { result ≡ reg_number fields.now }
+    ensures fits { result < 16 }
+{
+    vector_reg(fields) % 16
+}
+
+/// The general register in ModRM.r/m.
 pub(crate) fn rm(fields: &Fields) -> u8
     requires { fields.now.b < 2 }
     ensures number { result ≡ rm_number fields.now }
     ensures fits { result < 16 }
 {
     8 * fields.b + modrm(fields) % 8
+}
+
+/// The fifth bit of the register in ModRM.r/m.
+fn fifth_bit(fields: &Fields) -> u8
+    requires { fields.now.x < 2 }
+    ensures value { result ≡ fifth_bit_of fields.now.class fields.now.x }
+    ensures most { result ≤ 16 }
+{
+    match fields.class {
+        Class::Evex => 16 * fields.x,
+        Class::Legacy | Class::Vex => 0,
+    }
+}
+
+/// The vector register in ModRM.r/m.
+pub(crate) fn vector_rm(fields: &Fields) -> u8
+    requires x { fields.now.x < 2 }
+    requires b { fields.now.b < 2 }
+    ensures { result ≡ vector_rm_of fields.now }
+{
+    fifth_bit(fields) + rm(fields)
 }
 
 /// The register in the opcode.

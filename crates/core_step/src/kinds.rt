@@ -41,6 +41,8 @@ pub enum Breadth {
     OfStack,
     /// As an address.
     OfAddress,
+    /// 4 bytes, or 8 with W.
+    OfScalar,
 }
 
 /// How wide another operand is.
@@ -55,6 +57,8 @@ pub enum PartBreadth {
     Half,
     /// One byte.
     Count,
+    /// As the row says.
+    InRow,
 }
 
 /// What an operation does with the stack.
@@ -99,6 +103,8 @@ pub enum Operand {
     Number(u64),
     /// The control and status register of SSE (SDM volume 1, 10.2.3).
     Mxcsr,
+    /// The low part of an opmask, as the operand's size says.
+    Opmask(u8),
 }
 
 /// What an instruction does with its destination.

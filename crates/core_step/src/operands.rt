@@ -1,6 +1,6 @@
 //! An instruction with its operands found.
 ghost use Rattle.std.specs.Prelude.{◌≡◌, ◌<◌};
-ghost use Rattle.core_step.specs.Operands.{general, immediate_of, operand_at, op_of, prefixed_size as prefixed_size_of, stack_size as stack_size_of, address_size as address_size_of, row_size as row_size_of, size_by, letter_size as letter_size_of, part_size as part_size_of, upper_half as upper_half_of, operands_away as operands_away_of, bit_offset as bit_offset_of, bit_operand as bit_operand_of, stack_at, rsp_for};
+ghost use Rattle.core_step.specs.Operands.{general, opmask as opmask_of, immediate_of, operand_at, op_of, prefixed_size as prefixed_size_of, stack_size as stack_size_of, address_size as address_size_of, row_size as row_size_of, scalar_size as scalar_size_of, size_by, letter_size as letter_size_of, part_size as part_size_of, upper_half as upper_half_of, operands_away as operands_away_of, bit_offset as bit_offset_of, bit_operand as bit_operand_of, stack_at, rsp_for};
 ghost use Rattle.core_step.specs.Size.{cut as cut_to, sign_extended as sign_extended_from};
 ghost use Rattle.core_step.specs.Address.{address_of};
 ghost use Rattle.core_step.specs.Fits.{RegistersFit, OperandFits};
@@ -53,6 +53,14 @@ fn memory(fields: &Fields, disp: i64, gprs: &Gprs, bases: &Bases) -> Operand
     Operand::Memory(address(fields, disp, gprs, *bases))
 }
 
+/// An opmask as an operand.
+fn opmask(number: u8) -> Operand
+    ensures operand { result ≡ opmask_of number }
+    ensures fits { OperandFits result }
+{
+    Operand::Opmask(number % 8)
+}
+
 /// What stands at a place of a row's list of operands.
 #[inline(always)]
 #[tactic(auto, unfolding(crate::specs::Operands::operand_at))]
@@ -86,16 +94,22 @@ pub(crate) fn operand(
         Spot::Immediate => Operand::Number(immediate(fields)),
         Spot::Relative => Operand::Number(bases.next.wrapping_add(immediate(fields))),
         Spot::One => Operand::Number(1),
+        Spot::OpmaskReg => opmask(reg(fields)),
+        Spot::OpmaskRm => {
+            if is_memory(fields) {
+                memory(fields, disp, gprs, bases)
+            } else {
+                opmask(rm(fields))
+            }
+        }
+        Spot::OpmaskVvvv => opmask(fields.v % 16),
         Spot::Absent
         | Spot::VectorMemory
         | Spot::VectorReg
         | Spot::VectorRm
         | Spot::VectorVvvv
         | Spot::VectorImmediate
-        | Spot::Xmm0
-        | Spot::OpmaskReg
-        | Spot::OpmaskRm
-        | Spot::OpmaskVvvv => Operand::Absent,
+        | Spot::Xmm0 => Operand::Absent,
     }
 }
 
@@ -154,6 +168,13 @@ pub(crate) fn row_size(row: &Row, fields: &Fields) -> Size
     }
 }
 
+/// The size of a general register beside vectors or opmasks.
+fn scalar_size(fields: &Fields) -> Size
+    ensures { result ≡ scalar_size_of fields.now }
+{
+    if fields.w { Size::Quad } else { Size::Double }
+}
+
 /// The size of the destination.
 pub(crate) fn destination_size(breadth: Breadth, row: &Row, fields: &Fields) -> Size
     ensures { result ≡ size_by breadth row.now fields.now }
@@ -162,6 +183,7 @@ pub(crate) fn destination_size(breadth: Breadth, row: &Row, fields: &Fields) -> 
         Breadth::OfRow => row_size(row, fields),
         Breadth::OfStack => stack_size(fields),
         Breadth::OfAddress => address_size(fields),
+        Breadth::OfScalar => scalar_size(fields),
     }
 }
 
@@ -188,9 +210,9 @@ fn letter_size(letter: Extent, size: Size) -> Size
     }
 }
 
-/// The size of another operand than the destination, which has this size.
-pub(crate) fn part_size(breadth: PartBreadth, letter: Extent, size: Size) -> Size
-    ensures { result ≡ part_size_of breadth letter size }
+/// The size of another operand than the destination, which has this size, where the row has its own.
+pub(crate) fn part_size(breadth: PartBreadth, letter: Extent, own: Size, size: Size) -> Size
+    ensures { result ≡ part_size_of breadth letter own size }
 {
     match breadth {
         PartBreadth::Same => size,
@@ -198,6 +220,7 @@ pub(crate) fn part_size(breadth: PartBreadth, letter: Extent, size: Size) -> Siz
         PartBreadth::Quad => Size::Quad,
         PartBreadth::Half => size.half(),
         PartBreadth::Count => Size::Byte,
+        PartBreadth::InRow => own,
     }
 }
 
@@ -232,7 +255,7 @@ fn operands_away(size: Size, number: u64) -> u64
 /// The same, by the register that has the bit's number.
 #[tactic(auto, unfolding(crate::specs::Operands::bit_offset))]
 fn bit_offset(size: Size, fields: &Fields, gprs: &Gprs) -> u64
-    requires { fields.now.r < 2 }
+    requires { fields.now.r < 4 }
     ensures { result ≡ bit_offset_of size fields.now gprs.now }
 {
     operands_away(size, sign_extended(size, gprs.get(reg(fields))))

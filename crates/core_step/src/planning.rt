@@ -12,7 +12,7 @@ ghost use Rattle.vec_units.specs.Form.{IsVectorRow};
 ghost use Rattle.vec_step.specs.Fits.{PlanFits as VectorPlanFits};
 ghost use Rattle.core_step.specs.Machine.{state_of};
 
-use crate::addressing::{address, is_memory, reg, rm, segment_base};
+use crate::addressing::{address, is_memory, segment_base, vector_reg, vector_rm};
 use crate::kinds::{Bases, ClearPlan, Instruction, Plan, Roles, StackUse};
 use crate::machine::Machine;
 use crate::operands::{
@@ -50,30 +50,32 @@ impl Machine {
         let layout = layout(row.operands);
         let op = operation(row, &layout, &d.fields);
         let roles = roles(op, &layout);
+        let own = row_size(row, &d.fields);
         let size = destination_size(roles.breadth, row, &d.fields);
-        self.instruction_by(op, &roles, &layout, size, d, next)
+        self.instruction_by(op, &roles, &layout, own, size, d, next)
     }
 
-    // The instruction of an operation with these roles, whose destination has this size.
+    // The instruction of an operation with these roles, whose row has the size `own` and whose destination has the other.
     #[tactic(auto, unfolding(crate::specs::Operands::instruction_by))]
     fn instruction_by(
         &self,
         op: Op,
         roles: &Roles,
         layout: &Layout,
+        own: Size,
         size: Size,
         d: &Decoded,
         next: u64,
     ) -> Instruction
         requires { RegistersFit d.now.fields }
-        ensures is { (w : Swap) → result ≡ instruction_by_roles op roles.now layout.now size d.now next
+        ensures is { (w : Swap) → result ≡ instruction_by_roles op roles.now layout.now own size d.now next
             (state_of self.now w) }
         ensures fits { InstructionFits result }
     {
         let stack = stack_place(roles.stack, size, &self.gprs);
         let bases = self.bases(roles.stack, size, next);
-        let source_size = part_size(roles.source_breadth, layout.second.size, size);
-        let beside_size = part_size(roles.beside_breadth, layout.third.size, size);
+        let source_size = part_size(roles.source_breadth, layout.second.size, own, size);
+        let beside_size = part_size(roles.beside_breadth, layout.third.size, own, size);
         Instruction {
             destination: operand_for(
                 roles.destination,
@@ -175,9 +177,9 @@ impl Machine {
         ensures { (w : Swap) → result ≡ places_of row.now d.now next (state_of self.now w) }
     {
         Places {
-            reg: reg(&d.fields),
+            reg: vector_reg(&d.fields),
             vvvv: d.fields.v,
-            rm: rm(&d.fields),
+            rm: vector_rm(&d.fields),
             memory: self.memory_in(row, d, next),
         }
     }

@@ -2,9 +2,10 @@
 ghost use Rattle.std.specs.Prelude.{◌≡◌, ◌<◌, ◌^◌};
 ghost use Rattle.std.specs.Prelude.{IsTrue, ◌*◌};
 ghost use Rattle.gpr_units.specs.Alu.{is_alu};
+ghost use Rattle.opmask_unit.specs.Opmasks.{is_width, is_combining, is_testing};
 ghost use Rattle.core_step.specs.Size.{bits_in, bytes_in};
 ghost use Rattle.core_step.specs.Fits.{OutcomeFits};
-ghost use Rattle.core_step.specs.Result.{reversed as reversed_to, sign_bits as sign_bits_of, counted_down as counted_down_to, passes as passes_of, gives as gives_of, jumps as jumps_of, loops as loops_of, pushes as pushes_of, pops as pops_of, exchanges_numbers, calls as calls_of, returns_to, calls_system as calls_system_of, counts as counts_of, breaks as breaks_of, loads_control as loads_control_of, exchanges_sum as exchanges_sum_of, compares as compares_of, multiplies as multiplies_of, multiplies_freely as multiplies_freely_of, computes as computes_of, picks as picks_of, divides as divides_of, shifts as shifts_of, scans as scans_of, core_outcome as core_outcome_of, gpr_outcome as gpr_outcome_of, bit_outcome as bit_outcome_of, outcome_of, faults as faults_of};
+ghost use Rattle.core_step.specs.Result.{reversed as reversed_to, sign_bits as sign_bits_of, counted_down as counted_down_to, passes as passes_of, gives as gives_of, jumps as jumps_of, loops as loops_of, pushes as pushes_of, pops as pops_of, exchanges_numbers, calls as calls_of, returns_to, calls_system as calls_system_of, counts as counts_of, breaks as breaks_of, loads_control as loads_control_of, exchanges_sum as exchanges_sum_of, compares as compares_of, multiplies as multiplies_of, multiplies_freely as multiplies_freely_of, computes as computes_of, picks as picks_of, divides as divides_of, shifts as shifts_of, scans as scans_of, core_outcome as core_outcome_of, gpr_outcome as gpr_outcome_of, bit_outcome as bit_outcome_of, combines as combines_of, shifts_opmask as shifts_opmask_of, tests as tests_of, mask_outcome as mask_outcome_of, outcome_of, faults as faults_of};
 
 use crate::acted::Acted;
 use crate::flags::with_low;
@@ -13,7 +14,8 @@ use crate::sizes::Size;
 use bit_units::{bits, shift};
 use gpr_flags::{Fault, Flags, is_negative};
 use gpr_units::{alu, divide, multiply};
-use row_table::{BitOp, CoreOp, GprOp, Op};
+use opmask_unit::{logic, shift as shift_opmask, test};
+use row_table::{BitOp, CoreOp, GprOp, MaskOp, Op};
 
 /// The bytes in the other order.
 fn reversed(size: Size, number: u64) -> u64
@@ -420,6 +422,78 @@ fn bit_outcome(op: BitOp, i: &Instruction, a: u64, b: u64, c: u64, f: Flags) -> 
     }
 }
 
+/// How many bits of an opmask count.
+fn opmask_bits(size: Size) -> u8
+    ensures value { result ≡ bits_in size }
+    ensures fits { IsTrue (is_width result) }
+{
+    match size {
+        Size::Byte => 8,
+        Size::Word => 16,
+        Size::Double => 32,
+        Size::Quad => 64,
+    }
+}
+
+/// The value of one operation on opmasks, by its first source and its second.
+fn combines(op: MaskOp, i: &Instruction, first: u64, second: u64, f: Flags) -> Outcome
+    requires { IsTrue (is_combining op) }
+    ensures { result ≡ combines_of op i.now first second f }
+{
+    gives(
+        logic(Op::Mask(op), opmask_bits(i.size), first, second),
+        i,
+        f,
+    )
+}
+
+/// An opmask shifted by a count.
+fn shifts_opmask(left: bool, i: &Instruction, number: u64, count: u64, f: Flags) -> Outcome
+    ensures { result ≡ shifts_opmask_of left i.now number count f }
+{
+    let count = (count % 256) as u8;
+    gives(shift_opmask(left, opmask_bits(i.size), number, count), i, f)
+}
+
+/// The flags of a test of two opmasks.
+fn tests(op: MaskOp, i: &Instruction, a: u64, b: u64, f: Flags) -> Outcome
+    requires { IsTrue (is_testing op) }
+    ensures { result ≡ tests_of op i.now a b f }
+{
+    let (zf, cf) = test(Op::Mask(op), opmask_bits(i.size), a, b);
+    let flags = Flags {
+        zf,
+        cf,
+        pf: false,
+        af: false,
+        sf: false,
+        ovf: false,
+        ..f
+    };
+    passes(i, flags)
+}
+
+/// Operations on opmasks.
+#[tactic(auto, unfolding(crate::specs::Result::mask_outcome))]
+fn mask_outcome(op: MaskOp, i: &Instruction, a: u64, b: u64, c: u64, f: Flags) -> Outcome
+    ensures outcome { result ≡ mask_outcome_of op i.now a b c f }
+    ensures fits { OutcomeFits result f }
+{
+    match op {
+        MaskOp::Kand
+        | MaskOp::Kandn
+        | MaskOp::Kor
+        | MaskOp::Kxnor
+        | MaskOp::Kxor
+        | MaskOp::Kadd
+        | MaskOp::Kunpck => combines(op, i, c, b, f),
+        MaskOp::Knot | MaskOp::Kmov => combines(op, i, b, 0, f),
+        MaskOp::Kortest | MaskOp::Ktest => tests(op, i, a, b, f),
+        MaskOp::Kshiftr => shifts_opmask(false, i, b, c, f),
+        MaskOp::Kshiftl => shifts_opmask(true, i, b, c, f),
+    }
+}
+
 /// What comes of an instruction: `a` is the number of its destination, `b` that of its source, `c` that of what is read beside these.
 #[tactic(auto, unfolding(crate::specs::Result::outcome_of))]
 pub(crate) fn outcome(i: &Instruction, a: u64, b: u64, c: u64, f: Flags, steps: u64) -> Outcome
@@ -433,12 +507,12 @@ pub(crate) fn outcome(i: &Instruction, a: u64, b: u64, c: u64, f: Flags, steps: 
         Op::Core(op) => core_outcome(op, i, a, b, c, f, steps),
         Op::Gpr(op) => gpr_outcome(op, i, a, b, c, f),
         Op::Bit(op) => bit_outcome(op, i, a, b, c, f),
+        Op::Mask(op) => mask_outcome(op, i, a, b, c, f),
         Op::String(_)
         | Op::Lane(_)
         | Op::Cross(_)
         | Op::Width(_)
         | Op::Mac(_)
-        | Op::Mask(_)
         | Op::Vector(_)
         | Op::Gather(_)
         | Op::Xsave(_) => faults(Fault::Undefined, i, f),

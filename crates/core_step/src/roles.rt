@@ -1,9 +1,9 @@
 //! What each operation does with its operands.
 ghost use Rattle.std.specs.Prelude.{◌≡◌};
-ghost use Rattle.core_step.specs.Roles.{core_roles as core_roles_of, gpr_roles as gpr_roles_of, bit_roles as bit_roles_of, signed_product as signed_product_of, with_bit as with_bit_of, roles_of};
+ghost use Rattle.core_step.specs.Roles.{core_roles as core_roles_of, gpr_roles as gpr_roles_of, bit_roles as bit_roles_of, signed_product as signed_product_of, with_bit as with_bit_of, opmask_move as opmask_move_of, mask_roles as mask_roles_of, roles_of};
 
 use crate::kinds::{Breadth, Part, PartBreadth, Roles, StackUse, Use};
-use row_table::{BitOp, CoreOp, GprOp, Layout, Op, Spot};
+use row_table::{BitOp, CoreOp, GprOp, Layout, MaskOp, Op, Spot};
 
 const IDLE: Roles = Roles {
     breadth: Breadth::OfRow,
@@ -344,6 +344,72 @@ fn bit_roles(op: BitOp, layout: &Layout) -> Roles
     }
 }
 
+/// Of KMOV, between opmasks, memory and general registers.
+fn opmask_move(layout: &Layout) -> Roles
+    ensures { result ≡ opmask_move_of layout.now }
+{
+    match (layout.first.spot, layout.second.spot) {
+        (Spot::Reg, _) => Roles {
+            breadth: Breadth::OfScalar,
+            destination: Part::First,
+            source: Part::Second,
+            source_breadth: PartBreadth::InRow,
+            ..IDLE
+        },
+        (_, Spot::Rm) => Roles {
+            destination: Part::First,
+            source: Part::Second,
+            source_breadth: PartBreadth::Quad,
+            ..IDLE
+        },
+        (_, _) => Roles {
+            destination: Part::First,
+            source: Part::Second,
+            ..IDLE
+        },
+    }
+}
+
+/// Of opmasks.
+#[tactic(auto, unfolding(crate::specs::Roles::mask_roles))]
+fn mask_roles(op: MaskOp, layout: &Layout) -> Roles
+    ensures { result ≡ mask_roles_of op layout.now }
+{
+    match op {
+        MaskOp::Kand
+        | MaskOp::Kandn
+        | MaskOp::Kor
+        | MaskOp::Kxnor
+        | MaskOp::Kxor
+        | MaskOp::Kadd
+        | MaskOp::Kunpck => Roles {
+            destination: Part::First,
+            source: Part::Third,
+            beside: Part::Second,
+            ..IDLE
+        },
+        MaskOp::Knot => Roles {
+            destination: Part::First,
+            source: Part::Second,
+            ..IDLE
+        },
+        MaskOp::Kmov => opmask_move(layout),
+        MaskOp::Kortest | MaskOp::Ktest => Roles {
+            destination: Part::First,
+            usage: Use::Read,
+            source: Part::Second,
+            ..IDLE
+        },
+        MaskOp::Kshiftr | MaskOp::Kshiftl => Roles {
+            destination: Part::First,
+            source: Part::Second,
+            beside: Part::Third,
+            beside_breadth: PartBreadth::Count,
+            ..IDLE
+        },
+    }
+}
+
 /// What an operation does with operands of this layout. Strings and vectors have plans of their own.
 #[inline(always)]
 pub(crate) fn roles(op: Op, layout: &Layout) -> Roles
@@ -353,12 +419,12 @@ pub(crate) fn roles(op: Op, layout: &Layout) -> Roles
         Op::Core(op) => core_roles(op),
         Op::Gpr(op) => gpr_roles(op, layout),
         Op::Bit(op) => bit_roles(op, layout),
+        Op::Mask(op) => mask_roles(op, layout),
         Op::String(_)
         | Op::Lane(_)
         | Op::Cross(_)
         | Op::Width(_)
         | Op::Mac(_)
-        | Op::Mask(_)
         | Op::Vector(_)
         | Op::Gather(_)
         | Op::Xsave(_) => IDLE,

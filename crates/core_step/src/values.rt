@@ -8,7 +8,7 @@ ghost use Rattle.guest_pages.specs.Changes.{KeepsTable, IsWritten};
 ghost use Rattle.core_step.specs.Size.{bytes_in, bits_in};
 ghost use Rattle.core_step.specs.Fits.{OperandFits};
 ghost use Rattle.core_step.specs.Access.{operand_access, kind_of};
-ghost use Rattle.core_step.specs.Plain.{register_value as register_value_of, value_of, old_value as old_value_of, number_for as number_for_use, gprs_with, gprs_after, gprs_stacked, byte_after, extended_after};
+ghost use Rattle.core_step.specs.Plain.{register_value as register_value_of, value_of, old_value as old_value_of, number_for as number_for_use, gprs_with, gprs_after, gprs_stacked, byte_after, extended_with, extended_after};
 ghost use Rattle.core_step.specs.Machine.{processor_in};
 
 use crate::kinds::{Operand, Use};
@@ -31,6 +31,7 @@ impl Machine {
             Operand::HighByte(number) => size.cut(self.gprs.get(number) >> 8),
             Operand::Number(number) => size.cut(number),
             Operand::Mxcsr => size.cut(u64::from(self.vec.mxcsr())),
+            Operand::Opmask(number) => size.cut(self.vec.k(number)),
             Operand::Absent | Operand::Memory(_) => 0,
         }
     }
@@ -49,7 +50,8 @@ impl Machine {
             | Operand::Register(_)
             | Operand::HighByte(_)
             | Operand::Number(_)
-            | Operand::Mxcsr => self.register_value(operand, size),
+            | Operand::Mxcsr
+            | Operand::Opmask(_) => self.register_value(operand, size),
         }
     }
 
@@ -89,7 +91,11 @@ pub(crate) fn set_register(gprs: &mut Gprs, operand: Operand, size: Size, number
             let old = gprs.get(to);
             gprs.set(to, with_high_byte(old, number));
         }
-        Operand::Absent | Operand::Memory(_) | Operand::Number(_) | Operand::Mxcsr => {}
+        Operand::Absent
+        | Operand::Memory(_)
+        | Operand::Number(_)
+        | Operand::Mxcsr
+        | Operand::Opmask(_) => {}
     }
 }
 
@@ -115,12 +121,29 @@ fn put_memory(pages: &mut Pages, operand: Operand, size: Size, number: Option<u6
     }
 }
 
-/// Puts a number, where there is one, into MXCSR, if that is the operand.
-fn put_extended(vec: &mut VecFile, operand: Operand, number: Option<u64>)
-    ensures { vec.new ≡ extended_after operand number vec.old }
+/// Puts a number into MXCSR or an opmask.
+fn set_extended(vec: &mut VecFile, operand: Operand, size: Size, number: u64)
+    requires { OperandFits operand }
+    ensures { vec.new ≡ extended_with operand size number vec.old }
 {
-    if let (Operand::Mxcsr, Some(number)) = (operand, number) {
-        vec.set_mxcsr((number % 0x1_0000) as u32);
+    match operand {
+        Operand::Mxcsr => vec.set_mxcsr((number % 0x1_0000) as u32),
+        Operand::Opmask(to) => vec.set_k(to, size.cut(number)),
+        Operand::Absent
+        | Operand::Register(_)
+        | Operand::HighByte(_)
+        | Operand::Memory(_)
+        | Operand::Number(_) => {}
+    }
+}
+
+/// Puts a number, where there is one, into MXCSR or an opmask.
+fn put_extended(vec: &mut VecFile, operand: Operand, size: Size, number: Option<u64>)
+    requires { OperandFits operand }
+    ensures { vec.new ≡ extended_after operand size number vec.old }
+{
+    if let Some(number) = number {
+        set_extended(vec, operand, size, number);
     }
 }
 
@@ -136,13 +159,13 @@ pub(crate) fn put(
     requires operand { OperandFits operand }
     requires ready { number ≢ None → walk (table_of pages.old) (operand_access Kind.Write operand size) ≡ None }
     ensures gprs { gprs.new ≡ gprs_after operand size number gprs.old }
-    ensures extended { vec.new ≡ extended_after operand number vec.old }
+    ensures extended { vec.new ≡ extended_after operand size number vec.old }
     ensures byte { (w : Swap) → byte_of pages.new w ≡ byte_after operand size number (byte_of pages.old w) }
     ensures table { KeepsTable pages.old pages.new }
     ensures unwritten { number ≡ None → pages.new ≡ pages.old }
 {
     put_register(gprs, operand, size, number);
-    put_extended(vec, operand, number);
+    put_extended(vec, operand, size, number);
     put_memory(pages, operand, size, number);
 }
 

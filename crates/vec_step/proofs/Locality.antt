@@ -1,5 +1,5 @@
 -- A vector instruction depends on its accesses alone, and writes within them alone.
-use Rattle.std.proofs.Common.{◌≡◌, ℕ, zero, suc, ◌+◌, ◌*◌, ◌/◌, ◌%◌, ◌^◌, ◌<◌, ◌≤◌, ◌⊎◌, inl, inr, Bool, true, false, cond, ◌&&◌, nat_lt, List, [], ◌∷◌, ◌++◌, length, refl, ap, ◌∙◌, arith}
+use Rattle.std.proofs.Common.{◌≡◌, ℕ, zero, suc, ◌+◌, ◌*◌, ◌/◌, ◌%◌, ◌^◌, ◌<◌, ◌≤◌, ◌⊎◌, inl, inr, Bool, true, false, cond, ◌&&◌, nat_lt, List, [], ◌∷◌, refl, ap, ◌∙◌, arith}
 use Rattle.std.specs.List.{All}
 use Rattle.std.proofs.lemmas.List.Elements.{All-head}
 use Rattle.std.proofs.lemmas.Bool.{cases_lt, ltb-true}
@@ -18,13 +18,13 @@ use Rattle.num_lanes.proofs.Joins.{joined-same}
 use Rattle.masked_memory.specs.Lanes.{lane_place, lane_access, lane_accesses, loaded_lane, loaded, lane_stored, stored}
 use Rattle.vec_units.specs.Results.{vector_result, bits_of}
 use Rattle.vec_step.specs.declared.kinds.Source.{Source}
-use Rattle.vec_step.specs.declared.kinds.Source.TheVariants.{Register as FromRegister, General as FromGeneral, Count, Memory as FromMemory, Whole, Nothing}
+use Rattle.vec_step.specs.declared.kinds.Source.TheVariants.{Register as FromRegister, General as FromGeneral, Count, Memory as FromMemory, Broadcast, Whole, Nothing}
 use Rattle.vec_step.specs.declared.kinds.Target.{Target}
 use Rattle.vec_step.specs.declared.kinds.Target.TheVariants.{Register as ToRegister, Memory as ToMemory, Mask as ToMask, General as ToGeneral, Flags as ToFlags, Nowhere}
 use Rattle.vec_step.specs.declared.kinds.VectorPlan.{VectorPlan}
-use Rattle.vec_step.specs.Plan.{vector_access, source_accesses, target_accesses}
+use Rattle.vec_step.specs.Plan.{vector_access, read_accesses, source_accesses, target_accesses}
 use Rattle.num_lanes.specs.Setters.{zmm_in}
-use Rattle.vec_step.specs.Left.{padded, second_of, value_of, mask_of, number_of, extended_at, gprs_at, flags_at, byte_at, extended_left, gprs_left, flags_left, byte_left}
+use Rattle.vec_step.specs.Left.{padded, spread, operand_of, value_of, mask_of, number_of, extended_at, gprs_at, flags_at, byte_at, extended_left, gprs_left, flags_left, byte_left}
 use Rattle.vec_step.proofs.Accesses.{All_before, All_behind, written_outside, written_same}
 
 -- what holds of the accesses of n lanes holds of that of each
@@ -37,14 +37,21 @@ lane_all P kind addr w mask i (suc n) all h = elim (cases_lt i n) as (λ _. All 
   | inr not_below ↦ (let same : i ≡ n = omega arith in rw same (All_behind P (lane_accesses kind addr w mask n) (lane_access kind addr w mask n) all))
 ]
 
--- what holds of the accesses of an instruction holds of those that read, and of those that write
-read_part : (P : Access → Type 0) (i : VectorPlan) → All P (vector_access i) → All P (source_accesses i.second)
-unfolding vector_access
-read_part P i all = All_before P (source_accesses i.second) (target_accesses i.target) all
+-- what holds of the accesses of an instruction holds of those of each operand
+module _ (P : Access → Type 0) (i : VectorPlan) (all : All P (vector_access i)) where
+  read_part : All P (read_accesses i)
+  unfolding vector_access
+  read_part = All_before P (read_accesses i) (target_accesses i.target) all
 
-write_part : (P : Access → Type 0) (i : VectorPlan) → All P (vector_access i) → All P (target_accesses i.target)
-unfolding vector_access
-write_part P i all = All_behind P (source_accesses i.second) (target_accesses i.target) all
+  first_part : All P (source_accesses i.first)
+  first_part = All_before P (source_accesses i.first) (source_accesses i.second) read_part
+
+  second_part : All P (source_accesses i.second)
+  second_part = All_behind P (source_accesses i.first) (source_accesses i.second) read_part
+
+  target_part : All P (target_accesses i.target)
+  unfolding vector_access
+  target_part = All_behind P (read_accesses i) (target_accesses i.target) all
 
 -- ---- loads
 -- two memories have the same bytes in an access
@@ -81,31 +88,35 @@ loaded_same byte other kind addr w n mask old same =
     joined-same w (64 / w) _ _ (λ i h. lane_same byte other kind addr w n mask old i same)
 
 -- where memories have the same bytes in what is read, the same comes of it
-second_same : (source : Source) (gprs : List ℕ) (e : Extended) (byte other : ℕ → ℕ) → All (SameIn byte other) (source_accesses source)
-    → second_of source gprs e byte ≡ second_of source gprs e other
-unfolding second_of
-second_same (FromRegister n) gprs e byte other same = refl
-second_same (FromGeneral n) gprs e byte other same = refl
-second_same (Count n) gprs e byte other same = refl
-second_same (FromMemory m) gprs e byte other same = loaded_same byte other Read m.addr m.width m.lanes m.mask (λ _. 0) same
-second_same (Whole addr len) gprs e byte other same =
+operand_same : (source : Source) (gprs : List ℕ) (e : Extended) (byte other : ℕ → ℕ) → All (SameIn byte other) (source_accesses source)
+    → operand_of source gprs e byte ≡ operand_of source gprs e other
+unfolding operand_of
+operand_same (FromRegister n) gprs e byte other same = refl
+operand_same (FromGeneral n) gprs e byte other same = refl
+operand_same (Count n) gprs e byte other same = refl
+operand_same (FromMemory m) gprs e byte other same = loaded_same byte other Read m.addr m.width m.lanes m.mask (λ _. 0) same
+operand_same (Broadcast m) gprs e byte other same =
+    ap (λ (lanes : List ℕ). spread m.width lanes) (loaded_same byte other Read m.addr m.width m.lanes m.mask (λ _. 0) same)
+operand_same (Whole addr len) gprs e byte other same =
     ap (λ (bytes : List ℕ). padded bytes len)
     (bytes_same byte other (record { kind = Read; addr = addr; len = len })
     (All-head (SameIn byte other) (record { kind = Read; addr = addr; len = len }) [] same))
-second_same Nothing gprs e byte other same = refl
+operand_same Nothing gprs e byte other same = refl
 
 module _ (i : VectorPlan) (gprs : List ℕ) (e : Extended) (byte other : ℕ → ℕ) (same : All (SameIn byte other) (vector_access i)) where
+  first_same : operand_of i.first gprs e byte ≡ operand_of i.first gprs e other
+  first_same = operand_same i.first gprs e byte other (first_part (SameIn byte other) i same)
+
+  second_same : operand_of i.second gprs e byte ≡ operand_of i.second gprs e other
+  second_same = operand_same i.second gprs e byte other (second_part (SameIn byte other) i same)
+
   value_same : value_of i gprs e byte ≡ value_of i gprs e other
   unfolding value_of
-  value_same =
-      ap (λ (second : List ℕ). vector_result i.form (zmm_in e i.old) (zmm_in e i.first) second i.mask)
-      (second_same i.second gprs e byte other (read_part (SameIn byte other) i same))
+  value_same = λ k. vector_result i.form (zmm_in e i.old) (first_same k) (second_same k) i.mask
 
   mask_same : mask_of i gprs e byte ≡ mask_of i gprs e other
   unfolding mask_of
-  mask_same =
-      ap (λ (second : List ℕ). bits_of i.form (zmm_in e i.old) (zmm_in e i.first) second i.mask)
-      (second_same i.second gprs e byte other (read_part (SameIn byte other) i same))
+  mask_same = λ k. bits_of i.form (zmm_in e i.old) (first_same k) (second_same k) i.mask
 
   pub extended_same : extended_left i gprs e byte ≡ extended_left i gprs e other
   unfolding extended_left
@@ -185,4 +196,4 @@ byte_at_spared Nowhere value byte at spared = refl
 pub byte_spared : (i : VectorPlan) (gprs : List ℕ) (e : Extended) (byte : ℕ → ℕ) (at : ℕ) → All (Spares at) (vector_access i)
     → byte_left i gprs e byte at ≡ byte at
 unfolding byte_left
-byte_spared i gprs e byte at spared = byte_at_spared i.target (value_of i gprs e byte) byte at (write_part (Spares at) i spared)
+byte_spared i gprs e byte at spared = byte_at_spared i.target (value_of i gprs e byte) byte at (target_part (Spares at) i spared)

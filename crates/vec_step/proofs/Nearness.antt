@@ -1,5 +1,5 @@
 -- A vector instruction accesses 64 bytes at most from one address on.
-use Rattle.std.proofs.Common.{◌≡◌, ℕ, zero, suc, ◌+◌, ◌*◌, ◌%◌, ◌^◌, ◌<◌, ◌≤◌, ◌⊎◌, inl, inr, Bool, true, false, cond, List, [], ◌∷◌, ◌++◌, Option, Some, None, refl, sym, subst, arith}
+use Rattle.std.proofs.Common.{◌≡◌, ℕ, zero, suc, ◌+◌, ◌*◌, ◌%◌, ◌^◌, ◌<◌, ◌≤◌, ◌⊎◌, inl, inr, Bool, true, false, cond, [], ◌∷◌, Option, Some, None, refl, sym, subst, arith}
 use Rattle.std.specs.Prelude.{⊤}
 use Rattle.std.specs.List.{All}
 use Rattle.std.proofs.lemmas.Bool.{cases_lt}
@@ -7,6 +7,7 @@ use Rattle.std.proofs.lemmas.List.Elements.{All-nil, All-cons, All-append}
 use Rattle.machine_state.specs.declared.kinds.Kind.{Kind}
 use Rattle.machine_state.specs.declared.kinds.Kind.TheVariants.{Read, Write}
 use Rattle.machine_state.specs.declared.kinds.Access.{Access}
+use Rattle.machine_state.specs.State.{Extended}
 use Rattle.gpr_flags.specs.Numbers.{has_bit}
 use Rattle.row_table.specs.declared.kinds.Row.{Row}
 use Rattle.row_table.specs.declared.kinds.Fields.{Fields}
@@ -19,17 +20,17 @@ use Rattle.vec_units.specs.Form.{form_of}
 use Rattle.vec_step.specs.declared.kinds.Places.{Places}
 use Rattle.vec_step.specs.declared.kinds.Span.{Span}
 use Rattle.vec_step.specs.declared.kinds.Source.{Source}
-use Rattle.vec_step.specs.declared.kinds.Source.TheVariants.{Register as FromRegister, General as FromGeneral, Count, Memory as FromMemory, Whole, Nothing}
+use Rattle.vec_step.specs.declared.kinds.Source.TheVariants.{Register as FromRegister, General as FromGeneral, Count, Memory as FromMemory, Broadcast, Whole, Nothing}
 use Rattle.vec_step.specs.declared.kinds.Target.{Target}
 use Rattle.vec_step.specs.declared.kinds.Target.TheVariants.{Register as ToRegister, Memory as ToMemory, Mask as ToMask, General as ToGeneral, Flags as ToFlags, Nowhere}
-use Rattle.vec_step.specs.declared.kinds.VectorPlan.{VectorPlan}
 use Rattle.vec_step.specs.Fits.{PlanFits, SourceFits, TargetFits}
-use Rattle.vec_step.specs.Plan.{gives_flags, mask_in, spots_of, memory_source, source_or, source_in, target_or, target_in, target_at, vector_plan, source_accesses, target_accesses, vector_access}
+use Rattle.vec_step.specs.Plan.{gives_flags, mask_in, has_two_sources, spots_of, memory_source, source_or, source_in, first_in, target_or, target_in, vector_plan, source_accesses, target_accesses, vector_access}
 
 -- ---- where the operands are
 -- an operand in memory is at this address
 abbrev SourceAt : ℕ → Source → Type 0
 SourceAt addr (FromMemory m) = m.addr ≡ addr
+SourceAt addr (Broadcast m) = m.addr ≡ addr
 SourceAt addr (Whole other len) = other ≡ addr
 SourceAt addr (FromRegister n) = ⊤
 SourceAt addr (FromGeneral n) = ⊤
@@ -44,28 +45,35 @@ TargetAt addr (ToGeneral n) = ⊤
 TargetAt addr ToFlags = ⊤
 TargetAt addr Nowhere = ⊤
 
-whole_or-at : (addr len : ℕ) (whole : Bool) (m : Span) → m.addr ≡ addr → SourceAt addr (cond whole (Whole addr len) (FromMemory m))
-whole_or-at addr len true m is = refl
-whole_or-at addr len false m is = is
+memory-at : (addr len : ℕ) (spread whole : Bool) (element m : Span) → element.addr ≡ addr → m.addr ≡ addr
+    → SourceAt addr (cond spread (Broadcast element) (cond whole (Whole addr len) (FromMemory m)))
+memory-at addr len true whole element m there is = there
+memory-at addr len false true element m there is = refl
+memory-at addr len false false element m there is = is
 
 flags_or-at : (addr : ℕ) (flags : Bool) (target : Target) → TargetAt addr target → TargetAt addr (cond flags ToFlags target)
 flags_or-at addr true target is = tt
 flags_or-at addr false target is = is
 
 -- where the memory that an instruction names is at this address, if it names memory
-module _ (addr : ℕ) (row : Row) (f : Form) (mask : ℕ) where
+module _ (addr : ℕ) (row : Row) (fields : Fields) (f : Form) (mask : ℕ) where
   source_or-at : (register : Source) (memory : Option ℕ) → ((a : ℕ) → memory ≡ Some a → a ≡ addr) → SourceAt addr register
-      → SourceAt addr (source_or register row f mask memory)
+      → SourceAt addr (source_or register row fields f mask memory)
   source_or-at register None is other = other
   source_or-at register (Some a) is other =
-      subst (λ (x : ℕ). SourceAt addr (memory_source row f mask x)) (sym (is a refl)) (whole_or-at addr _ row.whole _ refl)
+      subst (λ (x : ℕ). SourceAt addr (memory_source row fields f mask x)) (sym (is a refl)) (memory-at addr _ fields.bc row.whole _ _ refl refl)
 
-  source_in-at : (spot : Spot) (p : Places) → ((a : ℕ) → p.memory ≡ Some a → a ≡ addr) → SourceAt addr (source_in spot row f mask p)
+  source_in-at : (spot : Spot) (p : Places) → ((a : ℕ) → p.memory ≡ Some a → a ≡ addr) → SourceAt addr (source_in spot row fields f mask p)
   unfolding source_in
   source_in-at VectorRm p is = source_or-at _ p.memory is tt
   source_in-at Rm p is = source_or-at _ p.memory is tt
   source_in-at InMemory p is = source_or-at Nothing p.memory is tt
   source_in-at spot p is = tt
+
+  first_in-at : (two : Bool) (spot : Spot) (p : Places) → ((a : ℕ) → p.memory ≡ Some a → a ≡ addr)
+      → SourceAt addr (first_in two spot row fields f mask p)
+  first_in-at true spot p is = source_in-at spot p is
+  first_in-at false spot p is = tt
 
   target_or-at : (register : Target) (memory : Option ℕ) → ((a : ℕ) → memory ≡ Some a → a ≡ addr) → TargetAt addr register
       → TargetAt addr (target_or register row f mask memory)
@@ -107,6 +115,7 @@ lanes_near kind addr w mask (suc n) below within =
 source_near : (source : Source) (addr : ℕ) → addr < 2 ^ 64 → SourceFits source → SourceAt addr source
     → All (IsNear addr) (source_accesses source)
 source_near (FromMemory m) addr below fits is = rw is (lanes_near Read addr m.width m.mask m.lanes below fits.most)
+source_near (Broadcast m) addr below fits is = rw is (lanes_near Read addr m.width m.mask m.lanes below fits.most)
 source_near (Whole other len) addr below fits is =
     subst (λ (x : ℕ). All (IsNear addr) (source_accesses (Whole x len))) (sym is)
     (All-cons (IsNear addr) (record { kind = Read; addr = addr; len = len }) [] (λ at low high. inl (low, omega (arith, fits))) (All-nil (IsNear addr)))
@@ -125,14 +134,18 @@ target_near ToFlags addr below fits is = All-nil (IsNear addr)
 target_near Nowhere addr below fits is = All-nil (IsNear addr)
 
 -- ---- the whole
-pub vector-near : (row : Row) (fields : Fields) (p : Places) (next : ℕ) (k : List ℕ) (addr : ℕ) → addr < 2 ^ 64
-    → ((a : ℕ) → p.memory ≡ Some a → a ≡ addr) → PlanFits (vector_plan row fields p next k)
-    → All (IsNear addr) (vector_access (vector_plan row fields p next k))
+pub vector-near : (row : Row) (fields : Fields) (p : Places) (next : ℕ) (e : Extended) (addr : ℕ) → addr < 2 ^ 64
+    → ((a : ℕ) → p.memory ≡ Some a → a ≡ addr) → PlanFits (vector_plan row fields p next e)
+    → All (IsNear addr) (vector_access (vector_plan row fields p next e))
 unfolding vector_access vector_plan
-vector-near row fields p next k addr below is fits =
+vector-near row fields p next e addr below is fits =
+    let f = form_of row fields in
+    let mask = mask_in row fields f p e in
+    let layout = layout_of row.operands in
+    let spots = spots_of layout in
     All-append (IsNear addr) _ _
-    (source_near _ addr below fits.second
-    (source_in-at addr row (form_of row fields) (mask_in fields k) (spots_of (layout_of row.operands)).second p is))
+    (All-append (IsNear addr) _ _
+    (source_near _ addr below fits.first (first_in-at addr row fields f mask (has_two_sources layout) spots.first p is))
+    (source_near _ addr below fits.second (source_in-at addr row fields f mask spots.second p is)))
     (target_near _ addr below fits.target
-    (flags_or-at addr (gives_flags row.op) _
-    (target_in-at addr row (form_of row fields) (mask_in fields k) (spots_of (layout_of row.operands)).destination p is)))
+    (flags_or-at addr (gives_flags row.op) _ (target_in-at addr row fields f mask spots.destination p is)))

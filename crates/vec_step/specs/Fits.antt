@@ -4,7 +4,7 @@ use Rattle.gpr_flags.specs.Registers.{is_size}
 use Rattle.vec_units.specs.Form.{FormFits}
 use Rattle.vec_step.specs.declared.kinds.Span.{Span}
 use Rattle.vec_step.specs.declared.kinds.Source.{Source}
-use Rattle.vec_step.specs.declared.kinds.Source.TheVariants.{Register as FromRegister, General as FromGeneral, Count, Memory as FromMemory, Whole, Nothing}
+use Rattle.vec_step.specs.declared.kinds.Source.TheVariants.{Register as FromRegister, General as FromGeneral, Count, Memory as FromMemory, Broadcast, Whole, Nothing}
 use Rattle.vec_step.specs.declared.kinds.Target.{Target}
 use Rattle.vec_step.specs.declared.kinds.Target.TheVariants.{Register as ToRegister, Memory as ToMemory, Mask as ToMask, General as ToGeneral, Flags as ToFlags, Nowhere}
 use Rattle.vec_step.specs.declared.kinds.VectorPlan.{VectorPlan}
@@ -18,6 +18,7 @@ SourceFits (FromRegister n) = n < 32
 SourceFits (FromGeneral n) = n < 16
 SourceFits (Count n) = ⊤
 SourceFits (FromMemory m) = SpanFits m
+SourceFits (Broadcast m) = SpanFits m
 SourceFits (Whole addr len) = len ≤ 64
 SourceFits Nothing = ⊤
 
@@ -32,6 +33,6 @@ TargetFits Nowhere = ⊤
 pub record PlanFits (i : VectorPlan) : Type 0 where
   pub form : FormFits i.form
   pub old : i.old < 32
-  pub first : i.first < 32
+  pub first : SourceFits i.first
   pub second : SourceFits i.second
   pub target : TargetFits i.target

@@ -1,24 +1,23 @@
 -- What a vector instruction leaves, where its accesses can be made.
-use Rattle.std.specs.Prelude.{ℕ, ◌+◌, ◌*◌, ◌/◌, ◌%◌, ◌==◌, Bool, true, false, if◌then◌else◌, List, [], ◌++◌, slice_index, slice_set, replicate, ◌-◌}
-use Rattle.std.specs.Simd.Lanes.{digits_l}
+use Rattle.std.specs.Prelude.{ℕ, ◌/◌, Bool, true, false, if◌then◌else◌, List, ◌++◌, slice_index, slice_set, replicate, ◌-◌}
 use Rattle.gpr_flags.specs.declared.kinds.Flags.{Flags}
 use Rattle.gpr_flags.specs.Numbers.{has_bit}
 use Rattle.machine_state.specs.Memory.{number_bytes, bytes_at}
 use Rattle.machine_state.specs.State.{Extended}
 use Rattle.row_table.specs.declared.operations.Op.{Op}
 use Rattle.row_table.specs.declared.operations.Op.TheVariants.{Core, Gpr, Bit, String, Lane, Cross, Width, Mac, Mask as OnMasks, Vector, Gather, Xsave}
-use Rattle.num_lanes.specs.Lane.{lane_of}
+use Rattle.num_lanes.specs.Lane.{lane_of, joined}
 use Rattle.num_lanes.specs.Setters.{zmm_in, with_zmm, with_k}
 use Rattle.masked_memory.specs.Lanes.{loaded, stored}
 use Rattle.vec_units.specs.Results.{vector_result, bits_of}
 use Rattle.vec_step.specs.declared.kinds.Span.{Span}
 use Rattle.vec_step.specs.declared.kinds.Source.{Source}
-use Rattle.vec_step.specs.declared.kinds.Source.TheVariants.{Register as FromRegister, General as FromGeneral, Count, Memory as FromMemory, Whole, Nothing}
+use Rattle.vec_step.specs.declared.kinds.Source.TheVariants.{Register as FromRegister, General as FromGeneral, Count, Memory as FromMemory, Broadcast, Whole, Nothing}
 use Rattle.vec_step.specs.declared.kinds.Target.{Target}
 use Rattle.vec_step.specs.declared.kinds.Target.TheVariants.{Register as ToRegister, Memory as ToMemory, Mask as ToMask, General as ToGeneral, Flags as ToFlags, Nowhere}
 use Rattle.vec_step.specs.declared.kinds.VectorPlan.{VectorPlan}
 
--- ---- the second operand, as a register
+-- ---- a source, as a register
 -- bytes from the lowest up, and zeros
 abbrev pub padded : List ℕ → (count : ℕ) → List ℕ
 padded bytes count = bytes ++ replicate (64 - count) 0
@@ -27,20 +26,25 @@ padded bytes count = bytes ++ replicate (64 - count) 0
 abbrev pub span_value : Span → (ℕ → ℕ) → List ℕ
 span_value m byte = loaded byte m.addr m.width m.lanes m.mask (λ i. 0)
 
-unfoldable pub second_of : Source → (gprs : List ℕ) → Extended → (ℕ → ℕ) → List ℕ
-second_of (FromRegister n) gprs e byte = zmm_in e n
-second_of (FromGeneral n) gprs e byte = padded (number_bytes 8 (slice_index gprs n)) 8
-second_of (Count n) gprs e byte = padded (number_bytes 8 n) 8
-second_of (FromMemory m) gprs e byte = span_value m byte
-second_of (Whole addr len) gprs e byte = padded (bytes_at byte addr len) len
-second_of Nothing gprs e byte = replicate 64 0
+-- the lowest lane in all lanes
+abbrev pub spread : (w : ℕ) → List ℕ → List ℕ
+spread w bytes = joined w (64 / w) (λ i. lane_of w bytes 0)
+
+unfoldable pub operand_of : Source → (gprs : List ℕ) → Extended → (ℕ → ℕ) → List ℕ
+operand_of (FromRegister n) gprs e byte = zmm_in e n
+operand_of (FromGeneral n) gprs e byte = padded (number_bytes 8 (slice_index gprs n)) 8
+operand_of (Count n) gprs e byte = padded (number_bytes 8 n) 8
+operand_of (FromMemory m) gprs e byte = span_value m byte
+operand_of (Broadcast m) gprs e byte = spread m.width (span_value m byte)
+operand_of (Whole addr len) gprs e byte = padded (bytes_at byte addr len) len
+operand_of Nothing gprs e byte = replicate 64 0
 
 -- ---- what comes of it: a register, and a mask of bits
 unfoldable pub value_of : VectorPlan → (gprs : List ℕ) → Extended → (ℕ → ℕ) → List ℕ
-value_of i gprs e byte = vector_result i.form (zmm_in e i.old) (zmm_in e i.first) (second_of i.second gprs e byte) i.mask
+value_of i gprs e byte = vector_result i.form (zmm_in e i.old) (operand_of i.first gprs e byte) (operand_of i.second gprs e byte) i.mask
 
 unfoldable pub mask_of : VectorPlan → (gprs : List ℕ) → Extended → (ℕ → ℕ) → ℕ
-mask_of i gprs e byte = bits_of i.form (zmm_in e i.old) (zmm_in e i.first) (second_of i.second gprs e byte) i.mask
+mask_of i gprs e byte = bits_of i.form (zmm_in e i.old) (operand_of i.first gprs e byte) (operand_of i.second gprs e byte) i.mask
 
 -- a general register gets the mask of an operation whose result is one, and else the lowest lane
 unfoldable pub gives_mask : Op → Bool

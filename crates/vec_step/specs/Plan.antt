@@ -3,8 +3,11 @@ use Rattle.std.specs.Prelude.{ℕ, ◌-◌, ◌*◌, ◌/◌, ◌%◌, ◌^◌, 
 use Rattle.machine_state.specs.declared.kinds.Kind.{Kind}
 use Rattle.machine_state.specs.declared.kinds.Kind.TheVariants.{Read, Write}
 use Rattle.machine_state.specs.declared.kinds.Access.{Access}
+use Rattle.machine_state.specs.State.{Extended}
 use Rattle.row_table.specs.declared.kinds.Row.{Row}
 use Rattle.row_table.specs.declared.kinds.Fields.{Fields}
+use Rattle.row_table.specs.declared.kinds.MaskKind.{MaskKind}
+use Rattle.row_table.specs.declared.kinds.MaskKind.TheVariants.{NoMask, MergeZero, ToMask, Blend, Compress, Required, Signs, SignsZero}
 use Rattle.row_table.specs.declared.kinds.Tuple.{Tuple}
 use Rattle.row_table.specs.declared.kinds.Tuple.TheVariants.{NoTuple, Full, Half, FullMem, HalfMem, QuarterMem, EighthMem, Mem128, T1S, T2, T4, T8}
 use Rattle.row_table.specs.declared.kinds.Spot.{Spot}
@@ -13,16 +16,17 @@ use Rattle.row_table.specs.declared.kinds.Layout.{Layout}
 use Rattle.row_table.specs.Letters.{layout_of}
 use Rattle.row_table.specs.declared.operations.Op.{Op}
 use Rattle.row_table.specs.declared.operations.Op.TheVariants.{Core, Gpr, Bit, String, Lane, Cross, Width, Mac, Mask as OnMasks, Vector, Gather, Xsave}
-use Rattle.row_table.specs.declared.operations.VectorOp.{VectorOp}
 use Rattle.row_table.specs.declared.operations.VectorOp.TheVariants.{Ptest, Pmovmskb, Movmskp}
 use Rattle.vec_units.specs.declared.forms.Form.{Form}
 use Rattle.vec_units.specs.Form.{form_of}
+use Rattle.vec_units.specs.Results.{sign_mask}
+use Rattle.num_lanes.specs.Setters.{zmm_in}
 use Rattle.masked_memory.specs.Lanes.{lane_accesses}
 use Rattle.vec_step.specs.declared.kinds.Spots.{Spots}
 use Rattle.vec_step.specs.declared.kinds.Places.{Places}
 use Rattle.vec_step.specs.declared.kinds.Span.{Span}
 use Rattle.vec_step.specs.declared.kinds.Source.{Source}
-use Rattle.vec_step.specs.declared.kinds.Source.TheVariants.{Register as FromRegister, General as FromGeneral, Count, Memory as FromMemory, Whole, Nothing}
+use Rattle.vec_step.specs.declared.kinds.Source.TheVariants.{Register as FromRegister, General as FromGeneral, Count, Memory as FromMemory, Broadcast, Whole, Nothing}
 use Rattle.vec_step.specs.declared.kinds.Target.{Target}
 use Rattle.vec_step.specs.declared.kinds.Target.TheVariants.{Register as ToRegister, Memory as ToMemory, Mask as ToMask, General as ToGeneral, Flags as ToFlags, Nowhere}
 use Rattle.vec_step.specs.declared.kinds.VectorPlan.{VectorPlan}
@@ -110,41 +114,75 @@ lanes_in row f = tuple_lanes row.tuple f.width f.len
 abbrev pub span_of : Row → Form → (mask addr : ℕ) → Span
 span_of row f mask addr = record { addr = addr; width = f.width; lanes = lanes_in row f; mask = mask }
 
--- the mask that an instruction names, or all lanes (SDM volume 1, 15.6.1)
-abbrev pub mask_in : Fields → List ℕ → ℕ
-mask_in fields k = if fields.aaa == 0 then 2 ^ 64 - 1 else slice_index k (fields.aaa % 8)
+-- ---- the mask
+-- rows whose mask is the signs of the register in vvvv (SDM volume 2, VMASKMOV and VPMASKMOV)
+abbrev pub is_by_signs : MaskKind → Bool
+is_by_signs Signs = true
+is_by_signs SignsZero = true
+is_by_signs NoMask = false
+is_by_signs MergeZero = false
+is_by_signs ToMask = false
+is_by_signs Blend = false
+is_by_signs Compress = false
+is_by_signs Required = false
 
--- ---- the second operand
+-- the opmask that an instruction names, or all lanes (SDM volume 1, 15.6.1)
+abbrev pub opmask_or_all : Fields → List ℕ → ℕ
+opmask_or_all fields k = if fields.aaa == 0 then 2 ^ 64 - 1 else slice_index k (fields.aaa % 8)
+
+abbrev pub mask_in : Row → Fields → Form → Places → Extended → ℕ
+mask_in row fields f p e =
+    if is_by_signs row.mask then sign_mask f (zmm_in e (vector_in VectorVvvv p)) else opmask_or_all fields e.k
+
+-- ---- the sources
+-- one element of memory for all lanes, of 4 bytes, or 8 with W (SDM volume 2, 2.7.5); it is accessed where a lane is masked in, and
+-- always in a row that reads its operand whole
+abbrev pub element_of : Row → Fields → Form → (mask addr : ℕ) → Span
+element_of row fields f mask addr = record {
+  addr = addr;
+  width = if fields.w then 8 else 4;
+  lanes = 1;
+  mask = if row.whole || not (mask % 2 ^ f.lanes == 0) then 1 else 0;
+}
+
 -- a row that reads its operand whole makes one access of it
-abbrev pub memory_source : Row → Form → (mask addr : ℕ) → Source
-memory_source row f mask addr = if row.whole then Whole addr (lanes_in row f * f.width) else FromMemory (span_of row f mask addr)
+abbrev pub memory_source : Row → Fields → Form → (mask addr : ℕ) → Source
+memory_source row fields f mask addr =
+    if fields.bc then Broadcast (element_of row fields f mask addr)
+    else if row.whole then Whole addr (lanes_in row f * f.width)
+    else FromMemory (span_of row f mask addr)
 
-abbrev pub source_or : Source → Row → Form → (mask : ℕ) → Option ℕ → Source
-source_or register row f mask None = register
-source_or register row f mask (Some addr) = memory_source row f mask addr
+abbrev pub source_or : Source → Row → Fields → Form → (mask : ℕ) → Option ℕ → Source
+source_or register row fields f mask None = register
+source_or register row fields f mask (Some addr) = memory_source row fields f mask addr
 
-unfoldable pub source_in : Spot → Row → Form → (mask : ℕ) → Places → Source
-source_in VectorReg row f mask p = FromRegister (vector_in VectorReg p)
-source_in VectorVvvv row f mask p = FromRegister (vector_in VectorVvvv p)
-source_in VectorRm row f mask p = source_or (FromRegister (vector_in VectorRm p)) row f mask p.memory
-source_in Rm row f mask p = source_or (FromGeneral (general_in Rm p)) row f mask p.memory
-source_in InMemory row f mask p = source_or Nothing row f mask p.memory
-source_in Reg row f mask p = FromGeneral (general_in Reg p)
-source_in Immediate row f mask p = Count f.imm
-source_in Absent row f mask p = Nothing
-source_in Vvvv row f mask p = Nothing
-source_in OpcodeReg row f mask p = Nothing
-source_in Rax row f mask p = Nothing
-source_in Cl row f mask p = Nothing
-source_in VectorMemory row f mask p = Nothing
-source_in Offset row f mask p = Nothing
-source_in Relative row f mask p = Nothing
-source_in One row f mask p = Nothing
-source_in VectorImmediate row f mask p = Nothing
-source_in Xmm0 row f mask p = Nothing
-source_in OpmaskReg row f mask p = Nothing
-source_in OpmaskRm row f mask p = Nothing
-source_in OpmaskVvvv row f mask p = Nothing
+unfoldable pub source_in : Spot → Row → Fields → Form → (mask : ℕ) → Places → Source
+source_in VectorReg row fields f mask p = FromRegister (vector_in VectorReg p)
+source_in VectorVvvv row fields f mask p = FromRegister (vector_in VectorVvvv p)
+source_in VectorRm row fields f mask p = source_or (FromRegister (vector_in VectorRm p)) row fields f mask p.memory
+source_in Rm row fields f mask p = source_or (FromGeneral (general_in Rm p)) row fields f mask p.memory
+source_in InMemory row fields f mask p = source_or Nothing row fields f mask p.memory
+source_in Reg row fields f mask p = FromGeneral (general_in Reg p)
+source_in Immediate row fields f mask p = Count f.imm
+source_in Absent row fields f mask p = Nothing
+source_in Vvvv row fields f mask p = Nothing
+source_in OpcodeReg row fields f mask p = Nothing
+source_in Rax row fields f mask p = Nothing
+source_in Cl row fields f mask p = Nothing
+source_in VectorMemory row fields f mask p = Nothing
+source_in Offset row fields f mask p = Nothing
+source_in Relative row fields f mask p = Nothing
+source_in One row fields f mask p = Nothing
+source_in VectorImmediate row fields f mask p = Nothing
+source_in Xmm0 row fields f mask p = Nothing
+source_in OpmaskReg row fields f mask p = Nothing
+source_in OpmaskRm row fields f mask p = Nothing
+source_in OpmaskVvvv row fields f mask p = Nothing
+
+-- the first source; where the list names only one other it is the destination's register, and no memory is read for it
+abbrev pub first_in : (two : Bool) → Spot → Row → Fields → Form → (mask : ℕ) → Places → Source
+first_in true spot row fields f mask p = source_in spot row fields f mask p
+first_in false spot row fields f mask p = FromRegister (vector_in spot p)
 
 -- ---- the destination
 abbrev pub target_or : Target → Row → Form → (mask : ℕ) → Option ℕ → Target
@@ -195,21 +233,23 @@ abbrev pub target_at : Spot → Row → Form → (mask : ℕ) → Places → Tar
 target_at spot row f mask p = if gives_flags row.op then ToFlags else target_in spot row f mask p
 
 -- ---- the instruction
-abbrev pub plan_by : Spots → Form → Row → (mask : ℕ) → Places → (next : ℕ) → VectorPlan
-plan_by spots f row mask p next = record {
-  form = f;
-  mask = mask;
-  old = vector_in spots.destination p;
-  first = vector_in spots.first p;
-  second = source_in spots.second row f mask p;
-  target = target_at spots.destination row f mask p;
-  next = next;
-}
+abbrev pub plan_by : Layout → Form → Row → Fields → (mask : ℕ) → Places → (next : ℕ) → VectorPlan
+plan_by layout f row fields mask p next =
+    let spots = spots_of layout in
+    record {
+      form = f;
+      mask = mask;
+      old = vector_in spots.destination p;
+      first = first_in (has_two_sources layout) spots.first row fields f mask p;
+      second = source_in spots.second row fields f mask p;
+      target = target_at spots.destination row f mask p;
+      next = next;
+    }
 
--- the instruction of a row and its fields, by the opmasks
-unfoldable pub vector_plan : Row → Fields → Places → (next : ℕ) → (k : List ℕ) → VectorPlan
-vector_plan row fields p next k =
-    plan_by (spots_of (layout_of row.operands)) (form_of row fields) row (mask_in fields k) p next
+-- the instruction of a row and its fields, by the vector registers and opmasks
+unfoldable pub vector_plan : Row → Fields → Places → (next : ℕ) → Extended → VectorPlan
+vector_plan row fields p next e =
+    let f = form_of row fields in plan_by (layout_of row.operands) f row fields (mask_in row fields f p e) p next
 
 -- ---- the access list: what is read first, and what is written last
 abbrev pub span_accesses : Kind → Span → List Access
@@ -220,6 +260,7 @@ source_accesses (FromRegister n) = []
 source_accesses (FromGeneral n) = []
 source_accesses (Count n) = []
 source_accesses (FromMemory m) = span_accesses Read m
+source_accesses (Broadcast m) = span_accesses Read m
 source_accesses (Whole addr len) = record { kind = Read; addr = addr; len = len } ∷ []
 source_accesses Nothing = []
 
@@ -231,5 +272,8 @@ target_accesses (ToGeneral n) = []
 target_accesses ToFlags = []
 target_accesses Nowhere = []
 
+abbrev pub read_accesses : VectorPlan → List Access
+read_accesses i = source_accesses i.first ++ source_accesses i.second
+
 unfoldable pub vector_access : VectorPlan → List Access
-vector_access i = source_accesses i.second ++ target_accesses i.target
+vector_access i = read_accesses i ++ target_accesses i.target

@@ -29,7 +29,7 @@ pub struct Span {
     pub mask: u64,
 }
 
-/// Where the second operand is.
+/// Where a source is.
 #[derive(Clone, Copy)]
 pub enum Source {
     /// A vector register.
@@ -40,6 +40,8 @@ pub enum Source {
     Count(u8),
     /// Memory, lane by lane.
     Memory(Span),
+    /// One lane of memory, for all lanes.
+    Broadcast(Span),
     /// So many bytes of memory, in one access.
     Whole(u64, u8),
     Nothing,
@@ -75,8 +77,8 @@ pub struct VectorPlan {
     pub mask: u64,
     /// The vector register whose lanes stay where they aren't written.
     pub old: u8,
-    /// The vector register of the first operand.
-    pub first: u8,
+    /// At most one of the two sources is in memory.
+    pub first: Source,
     pub second: Source,
     pub target: Target,
     /// Where the next instruction stands.

@@ -6,6 +6,7 @@ mod kinds;
 mod performing;
 mod places;
 mod planning;
+mod spreading;
 
 pub use clearing::clear;
 pub use kinds::{Clearing, Places, Source, Span, Spots, Target, VectorPlan};

@@ -6,11 +6,12 @@ ghost use Rattle.num_lanes.specs.Lane.{lane_of};
 ghost use Rattle.guest_pages.specs.Pages.{table_of, byte_of};
 ghost use Rattle.guest_pages.specs.Walk.{walk as walk_of};
 ghost use Rattle.guest_pages.specs.Changes.{KeepsTable};
-ghost use Rattle.vec_step.specs.Plan.{vector_access, span_accesses, source_accesses, target_accesses};
+ghost use Rattle.vec_step.specs.Plan.{vector_access, read_accesses, span_accesses, source_accesses, target_accesses};
 ghost use Rattle.vec_step.specs.Fits.{PlanFits, SpanFits, SourceFits, TargetFits};
-ghost use Rattle.vec_step.specs.Left.{padded, span_value, second_of, value_of, mask_of, gives_mask as gives_mask_by, number_of as number_of_result, extended_at, gprs_at, byte_at, extended_left, gprs_left, byte_left, flags_at, flags_left, tested_flags};
+ghost use Rattle.vec_step.specs.Left.{padded, span_value, spread, operand_of, value_of, mask_of, gives_mask as gives_mask_by, number_of as number_of_result, extended_at, gprs_at, byte_at, extended_left, gprs_left, byte_left, flags_at, flags_left, tested_flags};
 
 use crate::kinds::{Source, Span, Target, VectorPlan};
+use crate::spreading::spread_lowest;
 use gpr_flags::{Flags, Gprs, has_bit};
 use guest_pages::Pages;
 use machine_state::{Access, Kind, Stop};
@@ -44,13 +45,24 @@ fn walk_source(source: &Source, pages: &Pages) -> Result<(), Stop>
         (λ stop. walk_of (table_of pages.now) (source_accesses source.now) ≡ Some stop) }
 {
     match source {
-        Source::Memory(m) => walk_span(m, pages, Kind::Read),
+        Source::Memory(m) | Source::Broadcast(m) => walk_span(m, pages, Kind::Read),
         Source::Whole(addr, len) => pages.walk(&[Access {
             kind: Kind::Read,
             addr: *addr,
             len: u64::from(*len),
         }]),
         Source::Register(_) | Source::General(_) | Source::Count(_) | Source::Nothing => Ok(()),
+    }
+}
+
+fn walk_sources(i: &VectorPlan, pages: &Pages) -> Result<(), Stop>
+    requires { PlanFits i.now }
+    ensures { MatchResult result (λ _. walk_of (table_of pages.now) (read_accesses i.now) ≡ None)
+        (λ stop. walk_of (table_of pages.now) (read_accesses i.now) ≡ Some stop) }
+{
+    match walk_source(&i.first, pages) {
+        Ok(()) => walk_source(&i.second, pages),
+        Err(stop) => Err(stop),
     }
 }
 
@@ -77,13 +89,13 @@ pub fn walk(i: &VectorPlan, pages: &Pages) -> Result<(), Stop>
     ensures { MatchResult result (λ _. walk_of (table_of pages.now) (vector_access i.now) ≡ None)
         (λ stop. walk_of (table_of pages.now) (vector_access i.now) ≡ Some stop) }
 {
-    match walk_source(&i.second, pages) {
+    match walk_sources(i, pages) {
         Ok(()) => walk_target(&i.target, pages),
         Err(stop) => Err(stop),
     }
 }
 
-// ---- the second operand
+// ---- the sources
 
 /// The lanes of a span that are accessed, with 0 in all others.
 fn load_span(m: &Span, pages: &Pages) -> Vec64
@@ -127,18 +139,28 @@ fn number(value: u64) -> Vec64
     out
 }
 
-/// The second operand.
-#[tactic(auto, unfolding(crate::specs::Left::second_of))]
-fn second(source: &Source, gprs: &Gprs, vec: &VecFile, pages: &Pages) -> Vec64
+/// One lane of memory in all lanes.
+fn load_spread(m: &Span, pages: &Pages) -> Vec64
+    requires fits { SpanFits m.now }
+    requires ready { walk_of (table_of pages.now) (span_accesses Kind.Read m.now) ≡ None }
+    ensures { (w : Swap) → result ≡ spread m.now.width (span_value m.now (byte_of pages.now w)) }
+{
+    spread_lowest(m.width, &load_span(m, pages))
+}
+
+/// A source, as a register.
+#[tactic(auto, unfolding(crate::specs::Left::operand_of))]
+fn operand(source: &Source, gprs: &Gprs, vec: &VecFile, pages: &Pages) -> Vec64
     requires fits { SourceFits source.now }
     requires ready { walk_of (table_of pages.now) (source_accesses source.now) ≡ None }
-    ensures { (w : Swap) → result ≡ second_of source.now gprs.now vec.now (byte_of pages.now w) }
+    ensures { (w : Swap) → result ≡ operand_of source.now gprs.now vec.now (byte_of pages.now w) }
 {
     match source {
         Source::Register(n) => *vec.zmm(*n),
         Source::General(n) => number(gprs.get(*n)),
         Source::Count(n) => number(u64::from(*n)),
         Source::Memory(m) => load_span(m, pages),
+        Source::Broadcast(m) => load_spread(m, pages),
         Source::Whole(addr, len) => load_whole(pages, *addr, *len),
         Source::Nothing => [0; 64],
     }
@@ -150,16 +172,16 @@ fn second(source: &Source, gprs: &Gprs, vec: &VecFile, pages: &Pages) -> Vec64
 #[tactic(auto, unfolding(crate::specs::Left::value_of, crate::specs::Left::mask_of))]
 fn computed(i: &VectorPlan, gprs: &Gprs, vec: &VecFile, pages: &Pages) -> Outcome
     requires fits { PlanFits i.now }
-    requires ready { walk_of (table_of pages.now) (source_accesses i.now.second) ≡ None }
+    requires ready { walk_of (table_of pages.now) (read_accesses i.now) ≡ None }
     ensures value { (w : Swap) → result.value ≡ value_of i.now gprs.now vec.now (byte_of pages.now w) }
     ensures mask { (w : Swap) → result.mask ≡ mask_of i.now gprs.now vec.now (byte_of pages.now w) }
 {
-    let second = second(&i.second, gprs, vec, pages);
+    let first = operand(&i.first, gprs, vec, pages);
+    let second = operand(&i.second, gprs, vec, pages);
     let old = vec.zmm(i.old);
-    let first = vec.zmm(i.first);
     Outcome {
-        value: vector(&i.form, old, first, &second, i.mask),
-        mask: bits(&i.form, old, first, &second, i.mask),
+        value: vector(&i.form, old, &first, &second, i.mask),
+        mask: bits(&i.form, old, &first, &second, i.mask),
     }
 }
 

@@ -6,7 +6,7 @@ use crate::kinds::{Places, Spots};
 use row_table::{Layout, Spot};
 
 /// Whether a list has two sources beside the destination.
-fn has_two_sources(layout: &Layout) -> bool
+pub(crate) fn has_two_sources(layout: &Layout) -> bool
     ensures { result ≡ has_two_sources_by layout.now }
 {
     matches!(layout.first.spot, Spot::VectorVvvv)

@@ -1,14 +1,15 @@
 //! A vector instruction, by its row and fields.
-ghost use Rattle.std.specs.Prelude.{◌≡◌, ◌*◌, ◌≤◌};
+ghost use Rattle.std.specs.Prelude.{◌≡◌, ◌*◌, ◌^◌, ◌%◌, ◌==◌, ◌≤◌};
 ghost use Rattle.vec_units.specs.Form.{IsVectorRow, FormFits};
-ghost use Rattle.vec_step.specs.Plan.{lanes_in as lanes_in_row, span_of, mask_in as mask_in_state, memory_source as memory_source_of, source_or as source_or_by, source_in, target_or as target_or_by, target_in, target_at, gives_flags as gives_flags_by, vector_plan};
+ghost use Rattle.vec_step.specs.Plan.{lanes_in as lanes_in_row, span_of, is_by_signs as is_by_signs_kind, opmask_or_all as opmask_or_all_of, mask_in as mask_in_state, element_of, memory_source as memory_source_of, source_or as source_or_by, source_in, first_in, target_or as target_or_by, target_in, target_at, gives_flags as gives_flags_by, vector_plan};
 ghost use Rattle.vec_step.specs.Fits.{PlanFits, SpanFits, SourceFits, TargetFits};
 
 use crate::kinds::{Places, Source, Span, Target, VectorPlan};
-use crate::places::{general, opmask, spots, vector};
-use row_table::{Fields, Op, Row, Spot, Tuple, VectorOp, layout};
+use crate::places::{general, has_two_sources, opmask, spots, vector};
+use gpr_flags::low;
+use row_table::{Fields, MaskKind, Op, Row, Spot, Tuple, VectorOp, layout};
 use vec_file::VecFile;
-use vec_units::{Form, form_for};
+use vec_units::{Form, form_for, signs};
 
 /// How many lanes a row has in memory, by its tuple.
 #[tactic(auto, unfolding(crate::specs::Plan::tuple_lanes))]
@@ -44,9 +45,24 @@ fn span(row: &Row, f: &Form, mask: u64, addr: u64) -> Span
     }
 }
 
-/// The mask that an instruction names, or all lanes.
-fn mask_in(fields: &Fields, vec: &VecFile) -> u64
-    ensures { result ≡ mask_in_state fields.now vec.now.k }
+/// Whether a row's mask is the signs of the register in vvvv.
+fn is_by_signs(kind: MaskKind) -> bool
+    ensures { result ≡ is_by_signs_kind kind }
+{
+    match kind {
+        MaskKind::Signs | MaskKind::SignsZero => true,
+        MaskKind::NoMask
+        | MaskKind::MergeZero
+        | MaskKind::ToMask
+        | MaskKind::Blend
+        | MaskKind::Compress
+        | MaskKind::Required => false,
+    }
+}
+
+/// The opmask that an instruction names, or all lanes.
+fn opmask_or_all(fields: &Fields, vec: &VecFile) -> u64
+    ensures { result ≡ opmask_or_all_of fields.now vec.now.k }
 {
     if fields.aaa == 0 {
         u64::MAX
@@ -55,13 +71,49 @@ fn mask_in(fields: &Fields, vec: &VecFile) -> u64
     }
 }
 
-/// A source in memory.
-fn memory_source(row: &Row, f: &Form, mask: u64, addr: u64) -> Source
+/// The mask.
+fn mask_in(row: &Row, fields: &Fields, f: &Form, p: &Places, vec: &VecFile) -> u64
     requires { FormFits f.now }
-    ensures is { result ≡ memory_source_of row.now f.now mask addr }
+    ensures { result ≡ mask_in_state row.now fields.now f.now p.now vec.now }
+{
+    if is_by_signs(row.mask) {
+        signs(f, vec.zmm(vector(Spot::VectorVvvv, p)))
+    } else {
+        opmask_or_all(fields, vec)
+    }
+}
+
+/// Whether no lane is masked in.
+fn is_empty(f: &Form, mask: u64) -> bool
+    requires { FormFits f.now }
+    ensures { result ≡ (mask % 2 ^ f.now.lanes == 0) }
+{
+    low(u32::from(f.lanes), u128::from(mask)) == 0
+}
+
+/// One element of memory for all lanes.
+fn element(row: &Row, fields: &Fields, f: &Form, mask: u64, addr: u64) -> Span
+    requires { FormFits f.now }
+    ensures is { result ≡ element_of row.now fields.now f.now mask addr }
+    ensures fits { SpanFits result }
+{
+    Span {
+        addr,
+        width: if fields.w { 8 } else { 4 },
+        lanes: 1,
+        mask: u64::from(row.whole || !is_empty(f, mask)),
+    }
+}
+
+/// A source in memory.
+fn memory_source(row: &Row, fields: &Fields, f: &Form, mask: u64, addr: u64) -> Source
+    requires { FormFits f.now }
+    ensures is { result ≡ memory_source_of row.now fields.now f.now mask addr }
     ensures fits { SourceFits result }
 {
-    if row.whole {
+    if fields.bc {
+        Source::Broadcast(element(row, fields, f, mask, addr))
+    } else if row.whole {
         Source::Whole(addr, lanes_in(row, f) * f.width)
     } else {
         Source::Memory(span(row, f, mask, addr))
@@ -69,30 +121,55 @@ fn memory_source(row: &Row, f: &Form, mask: u64, addr: u64) -> Source
 }
 
 /// A source in memory, or another where ModRM doesn't name memory.
-fn source_or(register: Source, row: &Row, f: &Form, mask: u64, memory: Option<u64>) -> Source
+fn source_or(
+    register: Source,
+    row: &Row,
+    fields: &Fields,
+    f: &Form,
+    mask: u64,
+    memory: Option<u64>,
+) -> Source
     requires form { FormFits f.now }
     requires register { SourceFits register }
-    ensures is { result ≡ source_or_by register row.now f.now mask memory }
+    ensures is { result ≡ source_or_by register row.now fields.now f.now mask memory }
     ensures fits { SourceFits result }
 {
     match memory {
         None => register,
-        Some(addr) => memory_source(row, f, mask, addr),
+        Some(addr) => memory_source(row, fields, f, mask, addr),
     }
 }
 
-/// The second operand.
+/// The source in a place.
 #[tactic(auto, unfolding(crate::specs::Plan::source_in))]
-fn source(spot: Spot, row: &Row, f: &Form, mask: u64, p: &Places) -> Source
+fn source(spot: Spot, row: &Row, fields: &Fields, f: &Form, mask: u64, p: &Places) -> Source
     requires { FormFits f.now }
-    ensures is { result ≡ source_in spot row.now f.now mask p.now }
+    ensures is { result ≡ source_in spot row.now fields.now f.now mask p.now }
     ensures fits { SourceFits result }
 {
     match spot {
         Spot::VectorReg | Spot::VectorVvvv => Source::Register(vector(spot, p)),
-        Spot::VectorRm => source_or(Source::Register(vector(spot, p)), row, f, mask, p.memory),
-        Spot::Rm => source_or(Source::General(general(spot, p)), row, f, mask, p.memory),
-        Spot::Memory => source_or(Source::Nothing, row, f, mask, p.memory),
+        Spot::VectorRm => {
+            source_or(
+                Source::Register(vector(spot, p)),
+                row,
+                fields,
+                f,
+                mask,
+                p.memory,
+            )
+        }
+        Spot::Rm => {
+            source_or(
+                Source::General(general(spot, p)),
+                row,
+                fields,
+                f,
+                mask,
+                p.memory,
+            )
+        }
+        Spot::Memory => source_or(Source::Nothing, row, fields, f, mask, p.memory),
         Spot::Reg => Source::General(general(spot, p)),
         Spot::Immediate => Source::Count(f.imm),
         Spot::Absent
@@ -109,6 +186,27 @@ fn source(spot: Spot, row: &Row, f: &Form, mask: u64, p: &Places) -> Source
         | Spot::OpmaskReg
         | Spot::OpmaskRm
         | Spot::OpmaskVvvv => Source::Nothing,
+    }
+}
+
+/// The first source.
+fn first(
+    two: bool,
+    spot: Spot,
+    row: &Row,
+    fields: &Fields,
+    f: &Form,
+    mask: u64,
+    p: &Places,
+) -> Source
+    requires { FormFits f.now }
+    ensures is { result ≡ first_in two spot row.now fields.now f.now mask p.now }
+    ensures fits { SourceFits result }
+{
+    if two {
+        source(spot, row, fields, f, mask, p)
+    } else {
+        Source::Register(vector(spot, p))
     }
 }
 
@@ -195,18 +293,20 @@ fn target(spot: Spot, row: &Row, f: &Form, mask: u64, p: &Places) -> Target
 #[tactic(auto, unfolding(crate::specs::Plan::vector_plan))]
 pub fn plan(row: &Row, fields: &Fields, p: &Places, next: u64, vec: &VecFile) -> VectorPlan
     requires { IsVectorRow row.now }
-    ensures is { result ≡ vector_plan row.now fields.now p.now next vec.now.k }
+    ensures is { result ≡ vector_plan row.now fields.now p.now next vec.now }
     ensures fits { PlanFits result }
 {
     let form = form_for(row, fields);
-    let mask = mask_in(fields, vec);
-    let spots = spots(&layout(row.operands));
+    let mask = mask_in(row, fields, &form, p, vec);
+    let layout = layout(row.operands);
+    let two = has_two_sources(&layout);
+    let spots = spots(&layout);
     VectorPlan {
         form,
         mask,
         old: vector(spots.destination, p),
-        first: vector(spots.first, p),
-        second: source(spots.second, row, &form, mask, p),
+        first: first(two, spots.first, row, fields, &form, mask, p),
+        second: source(spots.second, row, fields, &form, mask, p),
         target: target(spots.destination, row, &form, mask, p),
         next,
     }

@@ -60,18 +60,11 @@ vector_is f w lanes dest first second mask is long within are =
     subst (λ (n : ℕ). joined n (64 / n) (placed_lane n f (lane_of n lanes) (lane_of n dest) (lane_of n first) mask) ≡ vector_result f dest first second mask)
     is (vector-own f lanes dest first second mask long within are)
 
-mask-own : (f : Form) (lanes dest first second : List ℕ) (mask : ℕ) → f.len ≤ length lanes → f.lanes * f.width ≤ f.len
+-- the mask of the lanes that were computed
+pub mask_is : (f : Form) (lanes dest first second : List ℕ) (mask : ℕ) → f.len ≤ length lanes → f.lanes * f.width ≤ f.len
     → LanesAre f.width (part f lanes) (computed_lane f dest first second mask)
     → signs_in f.width (lane_of f.width lanes) mask f.lanes ≡ mask_of f dest first second mask
 unfolding mask_of signs_in
-mask-own f lanes dest first second mask long within are =
+mask_is f lanes dest first second mask long within are =
     bits-same _ _ f.lanes
     (λ i h. ap (λ (x : ℕ). has_bit mask i && is_negative (8 * f.width) x) (lane-computed f lanes dest first second mask i long within are h))
-
--- the mask of the lanes that were computed
-pub mask_is : (f : Form) (w : ℕ) (lanes dest first second : List ℕ) (mask : ℕ) → f.width ≡ w → f.len ≤ length lanes
-    → f.lanes * f.width ≤ f.len → LanesAre f.width (part f lanes) (computed_lane f dest first second mask)
-    → signs_in w (lane_of w lanes) mask f.lanes ≡ mask_of f dest first second mask
-mask_is f w lanes dest first second mask is long within are =
-    subst (λ (n : ℕ). signs_in n (lane_of n lanes) mask f.lanes ≡ mask_of f dest first second mask)
-    is (mask-own f lanes dest first second mask long within are)

@@ -63,6 +63,10 @@ bits_where test (suc n) = bits_where test n + (if test n then 2 ^ n else 0)
 unfoldable pub signs_in : (w : ℕ) → (lane : ℕ → ℕ) → (mask n : ℕ) → ℕ
 signs_in w lane mask n = bits_where (λ i. has_bit mask i && is_negative (8 * w) (lane i)) n
 
+-- of a register's lanes, of which a form has so many; a register whose signs are a mask (SDM volume 2, VPMASKMOV) has this one
+abbrev pub sign_mask : Form → (register : List ℕ) → ℕ
+sign_mask f register = signs_in f.width (lane_of f.width register) (2 ^ 64 - 1) f.lanes
+
 -- of the lanes that are computed; where lanes are compared, the sign says whether the comparison holds
 unfoldable pub mask_of : Form → (dest first second : List ℕ) → (mask : ℕ) → ℕ
 mask_of f dest first second mask = signs_in f.width (computed_lane f dest first second mask) mask f.lanes

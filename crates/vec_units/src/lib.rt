@@ -8,7 +8,7 @@ mod masked;
 mod results;
 
 pub use forms::{Form, form_for};
-pub use results::{bits, mask_result, result, vector};
+pub use results::{bits, mask_result, result, signs, vector};
 
 #[cfg(test)]
 mod tests;

@@ -1,8 +1,8 @@
 //! What a vector instruction gives.
 ghost use Rattle.std.specs.Prelude.{◌≡◌, Some};
-ghost use Rattle.num_lanes.specs.Lane.{LanesAre};
+ghost use Rattle.num_lanes.specs.Lane.{LanesAre, lane_of};
 ghost use Rattle.vec_units.specs.Form.{FormFits, IsVector};
-ghost use Rattle.vec_units.specs.Results.{vector_result, mask_of, bits_of, test_of, computed_lane, part, result_of, mask_result_of};
+ghost use Rattle.vec_units.specs.Results.{vector_result, signs_in, sign_mask, mask_of, bits_of, test_of, computed_lane, part, result_of, mask_result_of};
 
 use crate::bit_masks::{have_none, mask_bits, one_of};
 use crate::computing::compute;
@@ -46,20 +46,35 @@ pub fn vector(f: &Form, dest: &Vec64, first: &Vec64, second: &Vec64, mask: u64) 
     }
 }
 
-/// The signs of the lanes that are masked in.
+/// The signs of the lanes of a register that a mask has.
+fn signs_by(f: &Form, register: &Vec64, mask: u64) -> u64
+    requires { FormFits f.now }
+    ensures { result ≡ signs_in f.now.width (lane_of f.now.width register.now) mask f.now.lanes }
+{
+    let lanes = usize::from(f.lanes);
+    match f.width {
+        1 => mask_bits::<1>(register, mask, lanes),
+        2 => mask_bits::<2>(register, mask, lanes),
+        4 => mask_bits::<4>(register, mask, lanes),
+        _ => mask_bits::<8>(register, mask, lanes),
+    }
+}
+
+/// The signs of a register's lanes, a bit a lane.
+pub fn signs(f: &Form, register: &Vec64) -> u64
+    requires { FormFits f.now }
+    ensures { result ≡ sign_mask f.now register.now }
+{
+    signs_by(f, register, u64::MAX)
+}
+
+/// The signs of the lanes that are computed and masked in.
 #[tactic(auto, using(crate::proofs::Vectors::mask_is))]
 fn lane_bits(f: &Form, dest: &Vec64, first: &Vec64, second: &Vec64, mask: u64) -> u64
     requires { FormFits f.now }
     ensures { result ≡ mask_of f.now dest.now first.now second.now mask }
 {
-    let computed = computed(f, dest, first, second, mask);
-    let lanes = usize::from(f.lanes);
-    match f.width {
-        1 => mask_bits::<1>(&computed, mask, lanes),
-        2 => mask_bits::<2>(&computed, mask, lanes),
-        4 => mask_bits::<4>(&computed, mask, lanes),
-        _ => mask_bits::<8>(&computed, mask, lanes),
-    }
+    signs_by(f, &computed(f, dest, first, second, mask), mask)
 }
 
 /// PTEST: ZF in bit 0 and CF in bit 1.

@@ -1,4 +1,4 @@
-use Rattle.std.proofs.Common.{rules, arith, ◌≡◌, ◌≤◌, refl, ap, ◌∙◌, replicate, length, length-take-le}
+use Rattle.std.proofs.Common.{◌≤◌, refl, ap, ◌∙◌, replicate, length-take-le}
 use Rattle.machine_state.specs.Memory.{bytes_at}
 use Rattle.guest_pages.specs.Pages.{byte_of}
 use Rattle.vec_step.proofs.Padding.{padded_is}

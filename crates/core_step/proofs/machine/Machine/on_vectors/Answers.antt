@@ -8,4 +8,4 @@ pub returns-clause-is : goal.returns-clause-is
 unfolding vectors_of
 returns-clause-is c w =
     c.plan.ensures.is
-    ∙ ap (λ (p : Places). vector_plan c.args.row.now c.args.d.now.fields p c.args.next c.args.self.now.vec.k) (c.places-places.ensures w)
+    ∙ ap (λ (p : Places). vector_plan c.args.row.now c.args.d.now.fields p c.args.next c.args.self.now.vec) (c.places-places.ensures w)

@@ -1,4 +1,4 @@
-use Rattle.std.proofs.Common.{[], ◌≡◌, ◌↔◌, true, Some, Option, nat_lt, ◌&&◌, refl, ap, ◌∙◌, sym, subst}
+use Rattle.std.proofs.Common.{[], ◌≡◌, ◌↔◌, true, Some, Option, nat_lt, ◌&&◌, refl, ap, ◌∙◌, sym, subst, arith}
 use Rattle.std.proofs.lemmas.Bool.{and_parts}
 use borrow.Author.Tests.{ltb-true}
 use Rattle.machine_state.specs.declared.kinds.Stop.{Stop}
@@ -28,7 +28,8 @@ fits-from : (f : Fields) → registers_fit f ≡ true → RegistersFit f
 fits-from f fit =
     let w = and_parts (nat_lt f.r 2) (nat_lt f.x 2 && nat_lt f.b 2) fit in
     let v = and_parts (nat_lt f.x 2) (nat_lt f.b 2) w.1 in
-    record { r = ltb-true f.r 2 w.0; x = ltb-true f.x 2 v.0; b = ltb-true f.b 2 v.1 }
+    let r = ltb-true f.r 2 w.0 in
+    record { r = omega arith; x = ltb-true f.x 2 v.0; b = ltb-true f.b 2 v.1 }
 
 pub row-row-requires : goal.row-row-requires
 row-row-requires c = decoded-row c.args.d.now.fields c.args.d.now c.requires.spells
