@@ -2,7 +2,7 @@
 ghost use Rattle.std.specs.Prelude.{IsTrue};
 ghost use Rattle.vec_units.specs.Form.{FormFits};
 
-use crate::{Form, bits, vector};
+use crate::{Form, bits, signs, vector};
 use num_lanes::Vec64;
 use row_table::{LaneOp, MaskKind, Op, VectorOp};
 
@@ -24,7 +24,7 @@ fn fits(f: &Form) -> bool
 {
     matches!(f.op, Op::Lane(_) | Op::Vector(_))
         && (f.width == 1 || f.width == 8)
-        && (f.len == 16 || f.len == 32)
+        && (f.len == 16 || f.len == 32 || f.len == 64)
         && u32::from(f.lanes) * u32::from(f.width) <= u32::from(f.len)
 }
 
@@ -99,11 +99,21 @@ fn lanes_that_are_masked_out_stay_or_are_cleared(rt: HostRuntime) {
         masking: MaskKind::Blend,
         ..SUM
     };
+    let zeroing_blend = Form {
+        zeroing: true,
+        ..blend
+    };
     let signs = Form {
         masking: MaskKind::SignsZero,
         ..SUM
     };
-    for (form, left_out) in [(SUM, 7), (zeroing, 0), (blend, 0xF0), (signs, 0)] {
+    for (form, left_out) in [
+        (SUM, 7),
+        (zeroing, 0),
+        (blend, 0xF0),
+        (zeroing_blend, 0),
+        (signs, 0),
+    ] {
         let mut want = bytes(left_out, 16, 0);
         want[1] = 2;
         want[15] = 2;
@@ -133,6 +143,58 @@ fn signs_of_lanes_are_bits(rt: HostRuntime) {
     assert_eq!(rt; mask_of(moved, &[0; 64], &second, u64::MAX), Some(0x8007));
     assert_eq!(rt; mask_of(doubles, &[0; 64], &second, u64::MAX), Some(0xA));
     assert_eq!(rt; mask_of(doubles, &[0; 64], &second, 8), Some(8));
+}
+
+#[test]
+fn a_comparison_has_a_bit_a_lane(rt: HostRuntime) {
+    let whole = Form {
+        op: Op::Lane(LaneOp::Pcmpeq),
+        lanes: 64,
+        len: 64,
+        masking: MaskKind::ToMask,
+        ..SUM
+    };
+    let short = Form {
+        lanes: 16,
+        len: 16,
+        ..whole
+    };
+    let second = bytes(0, 40, 1);
+    let some = 0xA5C3_F00F_5A3C_9669;
+    for (form, mask, want) in [
+        (whole, u64::MAX, 0xFF_FFFF_FFFF),
+        (whole, some, 0x0F_5A3C_9669),
+        (short, u64::MAX, 0xFFFF),
+        (short, some, 0x9669),
+    ] {
+        assert_eq!(rt; mask_of(form, &[0xFF; 64], &second, mask), Some(want));
+    }
+    assert_eq!(rt;
+        mask_of(whole, &[0; 64], &[0; 64], u64::MAX),
+        Some(u64::MAX)
+    );
+}
+
+fn signs_of(f: Form, register: &Vec64) -> Option<u64> {
+    if fits(&f) {
+        Some(signs(&f, register))
+    } else {
+        None
+    }
+}
+
+#[test]
+fn signs_of_a_register_are_a_mask(rt: HostRuntime) {
+    let quads = Form {
+        width: 8,
+        lanes: 4,
+        len: 32,
+        ..SUM
+    };
+    let mut register = bytes(0x80, 16, 0x7F);
+    register[63] = 0xFF;
+    assert_eq!(rt; signs_of(quads, &register), Some(3));
+    assert_eq!(rt; signs_of(SUM, &[0x80; 64]), Some(0xFFFF));
 }
 
 #[test]
