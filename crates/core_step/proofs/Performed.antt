@@ -24,6 +24,7 @@ use Rattle.row_table.specs.declared.operations.MaskOp.TheVariants.{Kand}
 use Rattle.row_table.specs.Letters.{layout_of, letters}
 use Rattle.row_table.specs.Legacy.{legacy, one_byte, two_byte, three_byte}
 use Rattle.row_table.specs.Vex.{vex_rows, vex_0f, vex_0f38, vex_0f3a}
+use Rattle.row_table.specs.Evex.{evex_rows, evex_0f}
 use Rattle.row_table.specs.Rows.{rows}
 use Rattle.core_step.specs.declared.acted.Acted.{Acted}
 use Rattle.core_step.specs.declared.acted.Acted.TheVariants.{Done, Trap}
@@ -33,7 +34,7 @@ use Rattle.core_step.specs.declared.kinds.Instruction.{Instruction}
 use Rattle.core_step.specs.declared.kinds.Outcome.{Outcome}
 use Rattle.core_step.specs.declared.strings.StringPlan.{StringPlan}
 use Rattle.core_step.specs.Size.{bits_in}
-use Rattle.core_step.specs.Roles.{roles_of, core_roles, gpr_roles, bit_roles}
+use Rattle.core_step.specs.Roles.{roles_of, core_roles, gpr_roles, bit_roles, mask_roles}
 use Rattle.core_step.specs.Operands.{instruction_of, instruction_by, op_of}
 use Rattle.core_step.specs.Access.{acted_by_miss}
 use Rattle.core_step.specs.Strings.{strings_of, is_over, passed_over, iterated}
@@ -58,7 +59,7 @@ all_performed [] = true
 all_performed (row ∷ rest) = is_row_performed row && all_performed rest
 
 rows-performed : all_performed rows ≡ true
-unfolding all_performed is_performed core_performed core_way spots_of core_roles gpr_roles bit_roles layout_of letters rows legacy one_byte two_byte three_byte vex_rows vex_0f vex_0f38 vex_0f3a
+unfolding all_performed is_performed core_performed core_way spots_of core_roles gpr_roles bit_roles mask_roles layout_of letters rows legacy one_byte two_byte three_byte vex_rows vex_0f vex_0f38 vex_0f3a evex_rows evex_0f
 rows-performed = refl
 
 same_row : (row other : Row) → some row ≡ some other → row ≡ other

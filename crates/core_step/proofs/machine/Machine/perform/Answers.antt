@@ -5,8 +5,7 @@ use Rattle.machine_state.specs.declared.kinds.Stop.{Stop}
 use Rattle.guest_pages.specs.Pages.{table_of, byte_of, memory_of}
 use Rattle.guest_pages.specs.Walk.{walk}
 use Rattle.row_table.specs.declared.kinds.Fields.{Fields}
-use Rattle.row_table.specs.Spelling.{registers_fit}
-use Rattle.x_decode.proofs.Classes.{decoded-registers, decoded-row}
+use Rattle.x_decode.proofs.Classes.{Registers, decoded-registers, decoded-row}
 use Rattle.core_step.specs.declared.acted.Acted.{Acted}
 use Rattle.core_step.specs.declared.acted.Acted.TheVariants.{Need}
 use Rattle.core_step.specs.declared.kinds.Plan.{Plan}
@@ -24,12 +23,8 @@ use Rattle.core_step.proofs.PageCounts.{plan-touch, none-touch}
 use Rattle.core_step.proofs.machine.Machine.perform.Goals as goal
 
 -- the registers of an instruction's fields
-fits-from : (f : Fields) → registers_fit f ≡ true → RegistersFit f
-fits-from f fit =
-    let w = and_parts (nat_lt f.r 2) (nat_lt f.x 2 && nat_lt f.b 2) fit in
-    let v = and_parts (nat_lt f.x 2) (nat_lt f.b 2) w.1 in
-    let r = ltb-true f.r 2 w.0 in
-    record { r = omega arith; x = ltb-true f.x 2 v.0; b = ltb-true f.b 2 v.1 }
+fits-from : (f : Fields) → Registers f → RegistersFit f
+fits-from f registers = record { r = registers.r; x = registers.x; b = registers.b }
 
 pub row-row-requires : goal.row-row-requires
 row-row-requires c = decoded-row c.args.d.now.fields c.args.d.now c.requires.spells
