@@ -117,7 +117,7 @@ hello-trail : map (λ (piece : Piece). let shown : ShownPiece = record { calls =
     (trail 1000000000000 run_h (with_file hello))
     ≡ record { calls = Load 1 ∷ []; output = [] } ∷ quiet [] ∷ quiet [] ∷ quiet [] ∷ quiet []
     ∷ record { calls = PutOut ∷ []; output = hello_text } ∷ quiet hello_text ∷ quiet hello_text ∷ quiet hello_text ∷ []
-unfolding command trail run_trail calls_in_step calls_in_call image_fits header_fits sizes_fit entry_of image_memory first_state first_world run step called put_bytes put_answer allowed_run first_miss bytes_at act fetched performed performed_as is_misaligned plan_of core_way instruction_of instruction_by operand_for operand_at core_roles gpr_roles base_of scaled_index offset_of address_of accesses_of first_fault value_of core_outcome gpr_outcome scalar_of alu_scalar outcome_of gprs_left byte_left seen scanned within_limit fields_at lead_at in_front after head_at escape_at shaped_head of_rex shape_at tail_at optional_at chunk_at fields_of number_of signed_of encoding_of spelled matched fits lock_fits operation_locks writes_rm layout_of letters rows legacy one_byte two_byte three_byte vex_rows vex_0f vex_0f38 vex_0f3a
+unfolding command trail run_trail calls_in_step calls_in_call image_fits header_fits sizes_fit entry_of image_memory first_state first_world run step called put_bytes put_answer allowed_run first_miss bytes_at act fetched performed performed_as is_misaligned plan_of core_way instruction_of instruction_by operand_for operand_at core_roles gpr_roles base_of scaled_index offset_of address_of accesses_of first_fault value_of core_outcome gpr_outcome scalar_of alu_scalar outcome_of gprs_left byte_left seen scanned within_limit fields_at lead_at in_front after head_at escape_at shaped_head of_rex shape_at tail_at optional_at chunk_at fields_of number_of signed_of encoding_of spelled matched fits lock_fits operation_locks writes_rm layout_of letters rows legacy one_byte two_byte three_byte vex_rows vex_0f vex_0f38 vex_0f3a evex_rows evex_0f
 hello-trail = refl
 
 -- its first three bytes of code are 0F 58 C1, ADDPS, which no row has
