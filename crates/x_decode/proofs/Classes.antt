@@ -24,7 +24,7 @@ pub record Registers (f : Fields) : Type 0 where
   pub b : f.b < 2
   pub v : f.v < 32
 
--- where no class but EVEX has more
+-- those of the other classes have half as many
 few-registers : (f : Fields) → registers_fit f ≡ true → f.v < 16 → Registers f
 few-registers f h below =
     let a = and_parts (nat_lt f.r 2) _ h in
