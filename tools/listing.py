@@ -15,13 +15,14 @@ TO_MEMORY = "Eb Ev EbGb EvGv EbIb EvIb EvIz M".split()
 MEMORY_ONLY = "M GvM MvGv VxMx MxVx VxHxMx MxHxVx VxVm VxVmHx VmVx MxKx".split()
 REGISTER_ONLY = "R HxUxIb UxIb VxHxUx UxHxVx VxUx UxVx VxRv GvUx GvUxIb KxUx VxKx KxKx KxKxKx KxKxIb KxRv GvKx".split()
 
-Row = collections.namedtuple("Row", "kind map mark opcode digit w lengths operands width part op level")
+Row = collections.namedtuple("Row", "kind map mark opcode digit w lengths operands width part op level tuple mask")
 
 # What stands before an instruction's operands. `kind`: legacy, vex or evex; `front`: the legacy prefixes and REX; `mark`: the
-# mandatory prefix; `length`: 1 for 128 bits (and for legacy), 2 for 256; `r`, `x` and `b`: 1 where they make a register's number
-# higher; `v`: the register in vvvv; `modrm`: the byte behind the opcode, 0 where there is none. Of EVEX, which has no rows yet,
-# only the map and the opcode are read.
-Head = collections.namedtuple("Head", "kind front map mark w length r x b v opcode modrm")
+# mandatory prefix; `length`: 1 for 128 bits (and for legacy), 2 for 256, 4 for 512; `r`, `x` and `b`: 1 where they make a register's
+# number higher, and `r` of EVEX up to 3; `v`: the register in vvvv, of EVEX with V'; `modrm`: the byte behind the opcode, 0 where
+# there is none; of EVEX `z`, `bc`, which is b, and `aaa`, and `fixed`, whether the bits that are fixed are as they have to be.
+Head = collections.namedtuple("Head", "kind front map mark w length r x b v opcode modrm z bc aaa fixed",
+                              defaults=(False, False, 0, True))
 
 
 def rows():
@@ -36,7 +37,7 @@ def rows():
         part, op = words[9].split(".")
         for opcode in range(int(first, 16), int(last or first, 16) + 1):
             found.append(Row(words[0], int(words[1]), words[2], opcode, words[4], words[5], int(words[6]), words[7],
-                             int(words[8]), part, op, more.get("level", "")))
+                             int(words[8]), part, op, more.get("level", ""), more.get("tuple", ""), more.get("mask", "")))
     return found
 
 
@@ -51,7 +52,7 @@ def read(code):
     if rest[0] == 0xC4:
         return vex_head(front, rest[1], rest[2], rest[3:])
     if rest[0] == 0x62:
-        return Head("evex", front, rest[1] & 7, "", False, 0, 0, 0, 0, 0, rest[4], rest[5])
+        return evex_head(front, *rest[1:4], rest[4:])
     return legacy_head(front, rest)
 
 
@@ -68,6 +69,14 @@ def vex_head(front, high, more, rest):
                 ~high >> 6 & 1, ~high >> 5 & 1, ~more >> 3 & 15, rest[0], rest[1])
 
 
+def evex_head(front, high, more, last, rest):
+    """The same by the fields of EVEX: R', X', B', R'', 0 and the map, then W, vvvv', 1 and pp, then z, L'L, b, V'' and aaa."""
+    return Head("evex", front, high & 7, MARKS[more & 3], bool(more & 0x80), 1 << (last >> 5 & 3),
+                (~high >> 7 & 1) + 2 * (~high >> 4 & 1), ~high >> 6 & 1, ~high >> 5 & 1,
+                (~more >> 3 & 15) + 16 * (~last >> 3 & 1), rest[0], rest[1], bool(last & 0x80), bool(last & 0x10), last & 7,
+                not high & 8 and bool(more & 4))
+
+
 def mark(front):
     """The mandatory prefix of some prefixes, in the words of the listing."""
     repeats = [byte for byte in front if byte in b"\xf2\xf3"]
@@ -82,7 +91,7 @@ def has_rex(front):
 
 
 def may_precede_vex(front):
-    """Whether VEX may stand behind these prefixes: none of 66, F2, F3, LOCK and REX (Intel SDM volume 2, 2.3.2 to 2.3.4)."""
+    """Whether VEX or EVEX may stand behind these prefixes: none of 66, F2, F3, LOCK and REX (Intel SDM volume 2, 2.3.2 to 2.3.4)."""
     return not any(byte in front for byte in b"\x66\xf2\xf3\xf0") and not has_rex(front)
 
 

@@ -237,7 +237,91 @@ fn cut_and_unknown_bytes_of_vex_are_told_apart(rt: HostRuntime) {
         &[0xc4, 0xe1, 0x60, 0x58],
         &[0xc4, 0xe3, 0x60, 0xf1],
         &[0xc5, 0xf8, 0x58],
+        &[0xc4, 0xe1, 0x60, 0x0f],
+    ];
+    for bytes in unknown {
+        assert!(rt; matches!(scan(bytes), Scan::Dead), "at {bytes:?}");
+    }
+}
+
+/// What EVEX says: the map, pp, W and L'L; R with R', X and B; vvvv with V'; z, b and aaa; and the displacement as it stands.
+type EvexSaid = ((u8, u8, bool, u8), (u8, u8, u8), u8, (bool, bool, u8), i64);
+
+fn evex_said_of(bytes: &[u8]) -> Option<EvexSaid> {
+    match scan(bytes) {
+        Scan::Whole(f, _) => match f.class {
+            Class::Evex => Some((
+                (f.map, f.pp, f.w, f.l),
+                (f.r, f.x, f.b),
+                f.v,
+                (f.z, f.bc, f.aaa),
+                f.disp,
+            )),
+            Class::Legacy | Class::Vex => None,
+        },
+        Scan::Short | Scan::Dead => None,
+    }
+}
+
+#[test]
+fn fields_of_evex_are_told(rt: HostRuntime) {
+    let none = (false, false, 0);
+    let rows: [(&[u8], EvexSaid); 6] = [
+        // vpaddd %zmm1,%zmm0,%zmm0 and the same of %zmm29, %zmm30, %zmm31.
+        (
+            &[0x62, 0xf1, 0x7d, 0x48, 0xfe, 0xc1],
+            ((1, 1, false, 2), (0, 0, 0), 0, none, 0),
+        ),
+        (
+            &[0x62, 0x01, 0x0d, 0x40, 0xfe, 0xfd],
+            ((1, 1, false, 2), (3, 1, 1), 30, none, 0),
+        ),
+        // vpaddd %xmm3,%xmm17,%xmm1{%k7}; vpaddd %ymm3,%ymm2,%ymm1{%k1}{z}.
+        (
+            &[0x62, 0xf1, 0x75, 0x07, 0xfe, 0xcb],
+            ((1, 1, false, 0), (0, 0, 0), 17, (false, false, 7), 0),
+        ),
+        (
+            &[0x62, 0xf1, 0x6d, 0xa9, 0xfe, 0xcb],
+            ((1, 1, false, 1), (0, 0, 0), 2, (true, false, 1), 0),
+        ),
+        // vpaddd 4(%rsp){1to16},%zmm0,%zmm0, whose displacement stands as 1.
+        (
+            &[0x62, 0xf1, 0x7d, 0x58, 0xfe, 0x44, 0x24, 0x01],
+            ((1, 1, false, 2), (0, 0, 0), 0, (false, true, 0), 1),
+        ),
+        // No row has W here, F3 and a length of 3: that is not looked at.
+        (
+            &[0x62, 0xf1, 0xfe, 0x68, 0xfe, 0xc1],
+            ((1, 2, true, 3), (0, 0, 0), 0, none, 0),
+        ),
+    ];
+    for (bytes, want) in rows {
+        assert_eq!(rt; evex_said_of(bytes), Some(want), "at {bytes:?}");
+    }
+}
+
+#[test]
+fn cut_and_unknown_bytes_of_evex_are_told_apart(rt: HostRuntime) {
+    let cut: [&[u8]; 7] = [
         &[0x62],
+        &[0x48, 0x62],
+        &[0x62, 0xf1],
+        &[0x62, 0xf1, 0x7d],
+        &[0x62, 0xf1, 0x7d, 0x48],
+        &[0x62, 0xf1, 0x7d, 0x48, 0xfe],
+        &[0x62, 0xf1, 0x7d, 0x48, 0xfe, 0x44, 0x24],
+    ];
+    for bytes in cut {
+        assert!(rt; matches!(scan(bytes), Scan::Short), "at {bytes:?}");
+    }
+    // Maps 0 and 4 have no row, nor has 58 in the first; then the bit that is 0, and the bit that is 1.
+    let unknown: [&[u8]; 5] = [
+        &[0x62, 0xf0],
+        &[0x62, 0xf4],
+        &[0x62, 0xf1, 0x7c, 0x48, 0x58],
+        &[0x62, 0xf9],
+        &[0x62, 0xf1, 0x79],
     ];
     for bytes in unknown {
         assert!(rt; matches!(scan(bytes), Scan::Dead), "at {bytes:?}");

@@ -1,9 +1,6 @@
 -- Where LOCK may stand: before the listed operations, where their destination is in memory (Intel SDM
 -- volume 2, "LOCK").
 use Rattle.std.specs.Prelude.{Bool, true, false, not, ◌&&◌, ◌||◌}
-use Rattle.row_table.specs.declared.kinds.Operands.{Operands}
-use Rattle.row_table.specs.declared.kinds.Spot.{Spot}
-use Rattle.row_table.specs.declared.kinds.Spot.TheVariants.{Absent, Reg, Rm, Vvvv, OpcodeReg, Rax, Cl, Memory as AtMemory, VectorMemory, Offset, Immediate, Relative, One, VectorReg, VectorRm, VectorVvvv, VectorImmediate, Xmm0, OpmaskReg, OpmaskRm, OpmaskVvvv}
 use Rattle.row_table.specs.declared.kinds.Form.TheVariants.{Memory}
 use Rattle.row_table.specs.declared.kinds.Row.{Row}
 use Rattle.row_table.specs.declared.kinds.Fields.{Fields}
@@ -15,8 +12,8 @@ use Rattle.row_table.specs.declared.operations.GprOp.{GprOp}
 use Rattle.row_table.specs.declared.operations.GprOp.TheVariants.{Add, Or, Adc, Sbb, And, Sub, Xor, Not, Neg, Inc, Dec}
 use Rattle.row_table.specs.declared.operations.BitOp.{BitOp}
 use Rattle.row_table.specs.declared.operations.BitOp.TheVariants.{Bts, Btr, Btc}
-use Rattle.row_table.specs.Letters.{layout_of}
 use Rattle.row_table.specs.Shapes.{form_fits}
+use Rattle.row_table.specs.Spelling.{writes_rm}
 
 -- XCHG, XADD, CMPXCHG, CMPXCHG8B and CMPXCHG16B
 abbrev pub core_locks : CoreOp → Bool
@@ -54,34 +51,6 @@ operation_locks (Core op) = core_locks op
 operation_locks (Gpr op) = arithmetic_locks op
 operation_locks (Bit op) = bit_locks op
 operation_locks _ = false
-
--- what stands there is in ModRM.r/m
-abbrev pub is_in_rm : Spot → Bool
-is_in_rm Rm = true
-is_in_rm AtMemory = true
-is_in_rm VectorMemory = true
-is_in_rm VectorRm = true
-is_in_rm OpmaskRm = true
-is_in_rm Absent = false
-is_in_rm Reg = false
-is_in_rm Vvvv = false
-is_in_rm OpcodeReg = false
-is_in_rm Rax = false
-is_in_rm Cl = false
-is_in_rm Offset = false
-is_in_rm Immediate = false
-is_in_rm Relative = false
-is_in_rm One = false
-is_in_rm VectorReg = false
-is_in_rm VectorVvvv = false
-is_in_rm VectorImmediate = false
-is_in_rm Xmm0 = false
-is_in_rm OpmaskReg = false
-is_in_rm OpmaskVvvv = false
-
--- the first operand, which is the destination, is in ModRM.r/m
-unfoldable pub writes_rm : Operands → Bool
-writes_rm operands = is_in_rm (layout_of operands).first.spot
 
 -- where LOCK is there, it is allowed
 unfoldable pub lock_fits : Row → Fields → Bool

@@ -2,14 +2,16 @@
 use Rattle.std.proofs.Common.{◌≡◌, true, refl, sym, subst, length}
 use Rattle.row_table.specs.Legacy.{legacy, one_byte, two_byte, three_byte}
 use Rattle.row_table.specs.Vex.{vex_rows, vex_0f, vex_0f38, vex_0f3a}
+use Rattle.row_table.specs.Evex.{evex_rows, evex_0f}
 use Rattle.row_table.specs.Letters.{layout_of, letters}
 use Rattle.row_table.specs.Rows.{rows, table, starts}
 use Rattle.row_table.proofs.Index.{index_fits, indexed, passes_by, ranged, rises, at_most}
 use Rattle.row_table.proofs.Pairs.{ordered, passes_near, near, together}
+use Rattle.row_table.proofs.Tuples.{tupled}
 
 -- the rows of the definition are those of the code
 pub rows-table : rows ≡ table
-unfolding rows legacy one_byte two_byte three_byte vex_rows vex_0f vex_0f38 vex_0f3a table
+unfolding rows legacy one_byte two_byte three_byte vex_rows vex_0f vex_0f38 vex_0f3a evex_rows evex_0f table
 rows-table = refl
 
 table-indexed : index_fits starts table ≡ true
@@ -40,6 +42,10 @@ table-together : near together table ≡ true
 unfolding near passes_near layout_of letters table
 table-together = refl
 
+table-tupled : tupled table ≡ true
+unfolding tupled layout_of letters table
+table-tupled = refl
+
 -- ---- the same of the rows of the definition
 pub rows-indexed : index_fits starts rows ≡ true
 rows-indexed = subst (λ t. index_fits starts t ≡ true) (sym rows-table) table-indexed
@@ -55,3 +61,6 @@ rows-ordered = subst (λ t. ordered 0 t ≡ true) (sym rows-table) table-ordered
 
 pub rows-together : near together rows ≡ true
 rows-together = subst (λ t. near together t ≡ true) (sym rows-table) table-together
+
+pub rows-tupled : tupled rows ≡ true
+rows-tupled = subst (λ t. tupled t ≡ true) (sym rows-table) table-tupled

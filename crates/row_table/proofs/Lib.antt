@@ -1,5 +1,6 @@
 pub mod Index
 pub mod Pairs
+pub mod Tuples
 pub mod Computed
 pub mod Places
 pub mod Unique

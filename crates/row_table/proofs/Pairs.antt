@@ -172,7 +172,7 @@ clash-from r q f e a b =
     and_true _ _ (eq-eqb _ _ (ap prefix_number e)) (and_true _ _ (modrm_both r q f.modrm a.digit a.form b.digit b.form)
     (and_true _ _ (w_both r.w q.w f.w a.w b.w) (lengths_both r.lengths q.lengths f.l a.length b.length)))
 
-contradicts : (a : Bool) → not a ≡ true → a ≡ true → ⊥
+pub contradicts : (a : Bool) → not a ≡ true → a ≡ true → ⊥
 contradicts true h e = cc
 contradicts false h e = cc
 

@@ -1,5 +1,5 @@
 -- The one row that fields match, and whether it allows them, in any encoding.
-use Rattle.std.proofs.Common.{◌≡◌, ◌↔◌, ◌<◌, ℕ, ℤ, Bool, true, false, cond, None, Option, length, slice_get, refl, sym, ap, ◌∙◌, subst}
+use Rattle.std.proofs.Common.{◌≡◌, ◌↔◌, ◌<◌, ℕ, ℤ, Bool, true, false, cond, None, length, slice_get, refl, sym, ap, ◌∙◌, subst}
 use Rattle.std.proofs.Common.{Some as some}
 use Rattle.std.proofs.lemmas.Option.{slice_get_within}
 use Rattle.row_table.specs.declared.kinds.Row.{Row}
@@ -108,18 +108,3 @@ module _ (e : Encoding) (f : Fields) where
   pub spelled-allowed : {P : Type 0} → ((r : Row) → e.allows r f ≡ true → P) → (d : Decoded) → IsSpelled e f d → P
   spelled-allowed get d is =
       let m = is.row.matches in get (row_there f d.row m) (is.row.allowed (row_there f d.row m) (row-there f d.row m))
-
--- ---- an encoding that allows nothing
-row-nothing : (e : Encoding) (f : Fields) → ((r : Row) → e.allows r f ≡ false) → (i : ℕ) (o : Option Row) → None ≡ spelled_row e f i o
-row-nothing e f denied i None = refl
-row-nothing e f denied i (some r) = sym (ap (λ b. cond b (some (instruction f i (e.displacement r f))) None) (denied r))
-
-at-nothing : (e : Encoding) (f : Fields) → ((r : Row) → e.allows r f ≡ false) → (o : Option ℕ) → None ≡ spelled_at e f o
-at-nothing e f denied None = refl
-at-nothing e f denied (some i) = row-nothing e f denied i (slice_get rows i)
-
-pub nothing-allowed : (e : Encoding) (f : Fields) → ((r : Row) → e.allows r f ≡ false) → IsSpelling e f None
-unfolding spelled
-nothing-allowed e f denied =
-    none-spelling e f (λ i s. let m = s.matches in true-false _ (s.allowed (row_there f i m) (row-there f i m)) (denied (row_there f i m)))
-    (at-nothing e f denied (matched f))

@@ -9,7 +9,8 @@ use Rattle.row_table.specs.Shapes.{shape_of}
 use Rattle.row_table.specs.Matching.{Fits, Matches, by_mark, without_mark, IsTable}
 use Rattle.row_table.proofs.Index.{place-of, some_same}
 use Rattle.row_table.proofs.Pairs.{near-at, together, together-parts, apart, agree, agree-same, shares, shares_none, shares-from, shares_none-first, shares_none-second, not-both}
-use Rattle.row_table.proofs.Computed.{rows-ordered, rows-together}
+use Rattle.row_table.proofs.Tuples.{has-tuple}
+use Rattle.row_table.proofs.Computed.{rows-ordered, rows-together, rows-tupled}
 use Rattle.row_table.proofs.Places.{placed-here}
 
 -- two rows of one place, the second behind the first, pass the tests
@@ -69,4 +70,5 @@ rows-sound = record {
   one_row = one-row;
   one_shape = λ i j r q a b at. one-shape i j r q a b (place-of r _ _ _ at);
   marks_apart = λ i j r q m a b at l p u x y v w. no-share i j r q a b (place-of r _ _ _ at) p u (shares-from r q m l p u x y v w);
+  tuples = has-tuple rows rows-tupled;
 }

@@ -15,8 +15,8 @@ use Rattle.row_table.specs.declared.kinds.Form.TheVariants.{Either, Memory, Regi
 use Rattle.row_table.specs.declared.kinds.Layout.{Layout}
 
 -- A letter of the maps with a small letter for the size. Of opmask registers, for which the maps have none, KV, KH, KU and KW
--- stand where V, H, U and W do; VM is memory with a vector index; Z is the register in the opcode; rAX, CL and XMM0 are
--- these registers, and One the number 1; Exact is a ModRM byte without an operand.
+-- stand where V, H, U and W do, and have the row's size, as memory in such a place has; VM is memory with a vector index; Z is the
+-- register in the opcode; rAX, CL and XMM0 are these registers, and One the number 1; Exact is a ModRM byte without an operand.
 pub data Letter : Type 0 where
   E : Extent → Letter
   G : Extent → Letter
@@ -152,17 +152,17 @@ letters GvUxIb = G y ∷ U x ∷ I b ∷ []
 letters VxVm = V x ∷ VM x ∷ []
 letters VxVmHx = V x ∷ VM x ∷ H x ∷ []
 letters VmVx = VM x ∷ V x ∷ []
-letters KxHxWx = KV x ∷ H x ∷ W x ∷ []
-letters KxHxWxIb = KV x ∷ H x ∷ W x ∷ I b ∷ []
-letters KxUx = KV x ∷ U x ∷ []
-letters VxKx = V x ∷ KU x ∷ []
-letters KxKx = KV x ∷ KU x ∷ []
-letters KxKxKx = KV x ∷ KH x ∷ KU x ∷ []
-letters KxKxIb = KV x ∷ KU x ∷ I b ∷ []
-letters KxKm = KV x ∷ KW x ∷ []
-letters MxKx = M x ∷ KV x ∷ []
-letters KxRv = KV x ∷ R y ∷ []
-letters GvKx = G y ∷ KU x ∷ []
+letters KxHxWx = KV own ∷ H x ∷ W x ∷ []
+letters KxHxWxIb = KV own ∷ H x ∷ W x ∷ I b ∷ []
+letters KxUx = KV own ∷ U x ∷ []
+letters VxKx = V x ∷ KU own ∷ []
+letters KxKx = KV own ∷ KU own ∷ []
+letters KxKxKx = KV own ∷ KH own ∷ KU own ∷ []
+letters KxKxIb = KV own ∷ KU own ∷ I b ∷ []
+letters KxKm = KV own ∷ KW own ∷ []
+letters MxKx = M own ∷ KV own ∷ []
+letters KxRv = KV own ∷ R y ∷ []
+letters GvKx = G y ∷ KU own ∷ []
 
 -- ---- what a letter says
 abbrev pub standing : Spot → Extent → Place

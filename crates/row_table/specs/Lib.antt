@@ -3,9 +3,12 @@ pub mod Order
 pub mod Shapes
 pub mod Lines
 pub mod VectorLines
+pub mod OpmaskLines
+pub mod EvexLines
 pub mod Simd
 pub mod Legacy
 pub mod Vex
+pub mod Evex
 pub mod Rows
 pub mod Matching
 pub mod Spelling

@@ -104,6 +104,10 @@ conditions r = opcodes 16 r
 abbrev pub by_w : Row → List Row
 by_w r = record r { w = Some false; width = 32 } ∷ record r { w = Some true; width = 64 } ∷ []
 
+-- without W of one width and with W of another, from a row for each width
+abbrev pub by_w_of : (narrow wide : ℕ) → (ℕ → Row) → List Row
+by_w_of narrow wide row = without_w (row narrow) ∷ with_w (row wide) ∷ []
+
 -- the six rows of an arithmetic operation i: 00+8i to 05+8i
 abbrev pub arithmetic : ℕ → Op → List Row
 arithmetic i op =

@@ -1,5 +1,5 @@
 -- When a row is the row of an instruction's fields.
-use Rattle.std.specs.Prelude.{◌≡◌, ℕ, zero, suc, ◌/◌, ◌%◌, ◌<◌, ◌==◌, Bool, true, false, ◌&&◌, ◌||◌, Option, Some, None, List, slice_get, ◌⊎◌, find, if◌then◌else◌}
+use Rattle.std.specs.Prelude.{◌≡◌, ℕ, zero, suc, ◌/◌, ◌%◌, ◌<◌, ◌==◌, nat_lt, Bool, true, false, ◌&&◌, ◌||◌, Option, Some, None, List, slice_get, ◌⊎◌, find, if◌then◌else◌}
 use Rattle.std.specs.Bool.{beq}
 use Rattle.std.specs.List.{list_any, position}
 use Rattle.std.specs.Option.{option_map, option_or}
@@ -9,6 +9,9 @@ use Rattle.row_table.specs.declared.kinds.Prefix.{Prefix}
 use Rattle.row_table.specs.declared.kinds.Prefix.TheVariants.{Unmarked, Np, P66, PF3, PF2}
 use Rattle.row_table.specs.declared.kinds.Standing.{Standing}
 use Rattle.row_table.specs.declared.kinds.Standing.TheVariants.{Marked, Unmarked as StandsUnmarked, Apart}
+use Rattle.row_table.specs.declared.kinds.Form.{Form}
+use Rattle.row_table.specs.declared.kinds.Form.TheVariants.{Either, Memory, Register, Exactly}
+use Rattle.row_table.specs.declared.kinds.Tuple.TheVariants.{NoTuple}
 use Rattle.row_table.specs.declared.kinds.Row.{Row}
 use Rattle.row_table.specs.declared.kinds.Fields.{Fields}
 use Rattle.row_table.specs.declared.kinds.Shape.{Shape}
@@ -136,6 +139,13 @@ shape_at class map opcode = option_map shape_of (find (is_at class map opcode) r
 unfoldable pub map_used : Class → ℕ → Bool
 map_used class map = list_any (λ r. (class_number r.class == class_number class) && (r.map == map)) rows
 
+-- an operand in ModRM.r/m may be in memory
+abbrev pub takes_memory : Form → Bool
+takes_memory Either = true
+takes_memory Memory = true
+takes_memory Register = false
+takes_memory (Exactly byte) = nat_lt byte 0xC0
+
 -- What holds of every row and of each two rows.
 pub record IsTable (rs : List Row) : Type 0 where
   -- maps and opcodes are within their ranges
@@ -151,3 +161,6 @@ pub record IsTable (rs : List Row) : Type 0 where
       → r.class ≡ Legacy → (r.prefix ≡ Np) ⊎ (r.prefix ≡ P66) → q.prefix ≡ Unmarked
       → digit_fits r.digit modrm ≡ true → form_fits (form_of r.operands) modrm ≡ true
       → digit_fits q.digit modrm ≡ true → form_fits (form_of q.operands) modrm ≡ true → ⊥
+  -- a row of EVEX that takes memory has a tuple, by which a displacement of one byte is multiplied
+  pub tuples : (i : ℕ) (r : Row) → slice_get rs i ≡ Some r → r.class ≡ Evex → takes_memory (form_of r.operands) ≡ true
+      → r.tuple ≡ NoTuple → ⊥

@@ -6,6 +6,7 @@ use Rattle.row_table.specs.declared.kinds.Row.{Row}
 use Rattle.row_table.specs.declared.table.TheConstants.{ROWS, STARTS}
 use Rattle.row_table.specs.Legacy.{legacy}
 use Rattle.row_table.specs.Vex.{vex_rows}
+use Rattle.row_table.specs.Evex.{evex_rows}
 
 abbrev pub class_number : Class → ℕ
 class_number Legacy = 0
@@ -21,7 +22,7 @@ row_place r = place r.class r.map r.opcode
 
 -- the row table, in order of place; rows of one place stand as the listing has them
 unfoldable pub rows : List Row
-rows = legacy ++ vex_rows
+rows = legacy ++ vex_rows ++ evex_rows
 
 -- the rows as the code has them
 unfoldable pub table : List Row

@@ -8,7 +8,7 @@ use Rattle.row_table.specs.declared.operations.Op.TheVariants.{Lane, Vector}
 use Rattle.row_table.specs.declared.operations.LaneOp.TheVariants.{Padd, Psub, Padds, Paddus, Psubs, Psubus, Pavg, Pminu, Pmaxu, Pmins, Pmaxs, Pand, Pandn, Por, Pxor, Psign, Pabs, Pcmpeq, Pcmpgt, Psrl, Psra, Psll, Andp, Andnp, Orp, Xorp, Movdqa, Movdqu, Movap, Movup, Movntp, Movntdq, Movntdqa, Lddqu, Movd, Movq, Movss, MovssLoad, Movsd, MovsdLoad, Movlp, Movhp, MovhpStore, Movhlps, Movlhps, Movddup, Movsldup, Movshdup}
 use Rattle.row_table.specs.declared.operations.VectorOp.TheVariants.{Ptest, Pmovmskb, Movmskp}
 use Rattle.row_table.specs.Lines.{digit, np, p66, pf3, pf2, by_w}
-use Rattle.row_table.specs.VectorLines.{Coding, Sse, Avx, coded, vector, packed, two_sources, one_source, by_count, by_number, to_its_size, element, of_128, of_256, whatever_length, by_float, element_by_float}
+use Rattle.row_table.specs.VectorLines.{Coding, Sse, Avx, coded, vector, two_sources, one_source, by_count, by_number, to_its_size, element, of_128, of_256, whatever_length, by_float, element_by_float}
 
 -- ---- the map of 0F (table A-3)
 -- F2 12: MOVDDUP, of 128 bits from memory of 64 bits

@@ -1,26 +1,44 @@
 -- The instructions of VEX, in the order of the SDM's opcode maps (Intel SDM volume 2, appendix A.3), by map and opcode: a comment
--- gives what a line of the map says, and the term below it the rows. Where it names no vectors, L is 0.
+-- gives what a line of the map says, and the term below it the rows. Where it names no vectors, L is 0 unless it says otherwise.
 use Rattle.std.specs.Prelude.{List, [], ◌∷◌, ◌++◌}
-use Rattle.row_table.specs.declared.kinds.Operands.TheVariants.{Implied, M, GyByEy, GyEyBy, ByEy, GyEyIb, VxHxWx}
+use Rattle.row_table.specs.declared.kinds.Operands.TheVariants.{Implied, M, GyByEy, GyEyBy, ByEy, GyEyIb, VxHxWx, KxKx, KxKxKx, KxKxIb, KxKm, MxKx, KxRv, GvKx}
 use Rattle.row_table.specs.declared.kinds.Row.{Row}
 use Rattle.row_table.specs.declared.operations.Op.TheVariants.{Core, Gpr, Bit, Lane}
 use Rattle.row_table.specs.declared.operations.CoreOp.TheVariants.{Ldmxcsr, Stmxcsr, Vzeroupper, Vzeroall}
 use Rattle.row_table.specs.declared.operations.GprOp.TheVariants.{Mulx}
 use Rattle.row_table.specs.declared.operations.BitOp.TheVariants.{Andn, Blsr, Blsmsk, Blsi, Bzhi, Pext, Pdep, Bextr, Shlx, Sarx, Shrx, Rorx}
 use Rattle.row_table.specs.declared.operations.LaneOp.TheVariants.{Vpsrlv, Vpsrav, Vpsllv}
-use Rattle.row_table.specs.Lines.{vex, digit, without_w, np, p66, pf3, pf2, by_w, in_map}
+use Rattle.row_table.specs.declared.operations.MaskOp.TheVariants.{Kand, Kandn, Kor, Kxnor, Kxor, Kadd, Kunpck, Knot, Kmov, Kortest, Ktest, Kshiftr, Kshiftl}
+use Rattle.row_table.specs.Lines.{vex, digit, without_w, with_w, np, p66, pf3, pf2, by_w, by_w_of, in_map}
+use Rattle.row_table.specs.OpmaskLines.{opmask, with_l, by_mark, by_general_mark}
 use Rattle.row_table.specs.VectorLines.{Avx, vector, of_128, of_256}
 use Rattle.row_table.specs.Simd.{simd_10, simd_28, simd_50, simd_7e, simd_d1, simd_0f38}
 
 -- the map of 0F (table A-3)
 unfoldable pub vex_0f : List Row
 vex_0f =
-    -- 10 to 76: those that are vector instructions of the legacy class, too
-    simd_10 Avx ++ simd_28 Avx ++ simd_50 Avx
+    -- 10 to 2B: those that are vector instructions of the legacy class, too
+    simd_10 Avx ++ simd_28 Avx
+    -- 41, 42 with L: KAND, KANDN Kx,Kx,Kx; 44: KNOT Kx,Kx
+    ++ by_mark (λ width. with_l (opmask 0x41 KxKxKx Kand width)) ++ by_mark (λ width. with_l (opmask 0x42 KxKxKx Kandn width))
+    ++ by_mark (λ width. opmask 0x44 KxKx Knot width)
+    -- 45, 46, 47, 4A with L: KOR, KXNOR, KXOR, KADD Kx,Kx,Kx
+    ++ by_mark (λ width. with_l (opmask 0x45 KxKxKx Kor width)) ++ by_mark (λ width. with_l (opmask 0x46 KxKxKx Kxnor width))
+    ++ by_mark (λ width. with_l (opmask 0x47 KxKxKx Kxor width)) ++ by_mark (λ width. with_l (opmask 0x4A KxKxKx Kadd width))
+    -- 4B with L: KUNPCK, by the width of what it gives: NP 32 bits and with W 64, 66 16 bits
+    ++ np (without_w (with_l (opmask 0x4B KxKxKx Kunpck 32))) ∷ np (with_w (with_l (opmask 0x4B KxKxKx Kunpck 64)))
+    ∷ p66 (without_w (with_l (opmask 0x4B KxKxKx Kunpck 16))) ∷ []
+    -- 50 to 76: those that are vector instructions of the legacy class, too
+    ++ simd_50 Avx
     -- NP 77: VZEROUPPER of 128 bits, VZEROALL of 256
     ++ np (of_128 (vector Avx 0x77 Implied 64 (Core Vzeroupper))) ∷ np (of_256 (vector Avx 0x77 Implied 64 (Core Vzeroall))) ∷ []
     -- 7E, 7F: those that are vector instructions of the legacy class, too
     ++ simd_7e Avx
+    -- 90: KMOV Kx,Kx or memory; 91: KMOV to memory; 92, 93: KMOV from and to a general register
+    ++ by_mark (λ width. opmask 0x90 KxKm Kmov width) ++ by_mark (λ width. opmask 0x91 MxKx Kmov width)
+    ++ by_general_mark (λ width. opmask 0x92 KxRv Kmov width) ++ by_general_mark (λ width. opmask 0x93 GvKx Kmov width)
+    -- 98, 99: KORTEST, KTEST Kx,Kx
+    ++ by_mark (λ width. opmask 0x98 KxKx Kortest width) ++ by_mark (λ width. opmask 0x99 KxKx Ktest width)
     -- NP AE /2, /3, memory only: VLDMXCSR and VSTMXCSR of 32 bits
     ++ np (digit 2 (vex 0xAE M (Core Ldmxcsr))) ∷ np (digit 3 (vex 0xAE M (Core Stmxcsr))) ∷ []
     -- D1 to FE: those that are vector instructions of the legacy class, too
@@ -52,8 +70,11 @@ vex_0f38 =
 -- the map of 0F3A (table A-5)
 unfoldable pub vex_0f3a : List Row
 vex_0f3a =
+    -- 66 30, 31: KSHIFTRB and with W KSHIFTRW, KSHIFTRD and with W KSHIFTRQ Kx,Kx,Ib; 32, 33: KSHIFTL
+    by_w_of 8 16 (λ width. p66 (opmask 0x30 KxKxIb Kshiftr width)) ++ by_w_of 32 64 (λ width. p66 (opmask 0x31 KxKxIb Kshiftr width))
+    ++ by_w_of 8 16 (λ width. p66 (opmask 0x32 KxKxIb Kshiftl width)) ++ by_w_of 32 64 (λ width. p66 (opmask 0x33 KxKxIb Kshiftl width))
     -- F2 F0: RORX Gy,Ey,Ib
-    by_w (pf2 (vex 0xF0 GyEyIb (Bit Rorx)))
+    ++ by_w (pf2 (vex 0xF0 GyEyIb (Bit Rorx)))
 
 -- the rows of VEX
 unfoldable pub vex_rows : List Row

@@ -27,8 +27,9 @@ pub enum Prefix {
 /// register by ModRM.reg, B one by vvvv, R one by ModRM.r/m; V a vector register by ModRM.reg, H one by
 /// vvvv, U one by ModRM.r/m, W one or memory by ModRM.r/m, L one by the immediate; M memory; I an
 /// immediate; J a place relative to the next instruction; O an address without ModRM. K is an opmask
-/// register. b, w, d are 1, 2 and 4 bytes, v the operand size, y 4 bytes or 8 with W, z 4 bytes or 2
-/// with a 16-bit operand size, x the vector's length, dq 16 bytes.
+/// register, of the row's width whatever letter follows it, and so is memory that it is moved to or from.
+/// b, w, d are 1, 2 and 4 bytes, v the operand size, y 4 bytes or 8 with W, z 4 bytes or 2 with a 16-bit
+/// operand size, x the vector's length, dq 16 bytes.
 #[derive(Clone, Copy)]
 pub enum Operands {
     // Without ModRM.

@@ -99,17 +99,17 @@ static LAYOUTS: [Layout; 87] = layouts![
     (VxVm: VectorReg Vector, VectorMemory Vector, Absent Own, Absent Own; true 0 Form::Memory),
     (VxVmHx: VectorReg Vector, VectorMemory Vector, VectorVvvv Vector, Absent Own; true 0 Form::Memory),
     (VmVx: VectorMemory Vector, VectorReg Vector, Absent Own, Absent Own; true 0 Form::Memory),
-    (KxHxWx: OpmaskReg Vector, VectorVvvv Vector, VectorRm Vector, Absent Own; true 0 Form::Either),
-    (KxHxWxIb: OpmaskReg Vector, VectorVvvv Vector, VectorRm Vector, Immediate Byte; true 1 Form::Either),
-    (KxUx: OpmaskReg Vector, VectorRm Vector, Absent Own, Absent Own; true 0 Form::Register),
-    (VxKx: VectorReg Vector, OpmaskRm Vector, Absent Own, Absent Own; true 0 Form::Register),
-    (KxKx: OpmaskReg Vector, OpmaskRm Vector, Absent Own, Absent Own; true 0 Form::Register),
-    (KxKxKx: OpmaskReg Vector, OpmaskVvvv Vector, OpmaskRm Vector, Absent Own; true 0 Form::Register),
-    (KxKxIb: OpmaskReg Vector, OpmaskRm Vector, Immediate Byte, Absent Own; true 1 Form::Register),
-    (KxKm: OpmaskReg Vector, OpmaskRm Vector, Absent Own, Absent Own; true 0 Form::Either),
-    (MxKx: Memory Vector, OpmaskReg Vector, Absent Own, Absent Own; true 0 Form::Memory),
-    (KxRv: OpmaskReg Vector, Rm Scalar, Absent Own, Absent Own; true 0 Form::Register),
-    (GvKx: Reg Scalar, OpmaskRm Vector, Absent Own, Absent Own; true 0 Form::Register)
+    (KxHxWx: OpmaskReg Own, VectorVvvv Vector, VectorRm Vector, Absent Own; true 0 Form::Either),
+    (KxHxWxIb: OpmaskReg Own, VectorVvvv Vector, VectorRm Vector, Immediate Byte; true 1 Form::Either),
+    (KxUx: OpmaskReg Own, VectorRm Vector, Absent Own, Absent Own; true 0 Form::Register),
+    (VxKx: VectorReg Vector, OpmaskRm Own, Absent Own, Absent Own; true 0 Form::Register),
+    (KxKx: OpmaskReg Own, OpmaskRm Own, Absent Own, Absent Own; true 0 Form::Register),
+    (KxKxKx: OpmaskReg Own, OpmaskVvvv Own, OpmaskRm Own, Absent Own; true 0 Form::Register),
+    (KxKxIb: OpmaskReg Own, OpmaskRm Own, Immediate Byte, Absent Own; true 1 Form::Register),
+    (KxKm: OpmaskReg Own, OpmaskRm Own, Absent Own, Absent Own; true 0 Form::Either),
+    (MxKx: Memory Own, OpmaskReg Own, Absent Own, Absent Own; true 0 Form::Memory),
+    (KxRv: OpmaskReg Own, Rm Scalar, Absent Own, Absent Own; true 0 Form::Register),
+    (GvKx: Reg Scalar, OpmaskRm Own, Absent Own, Absent Own; true 0 Form::Register)
 ];
 
 /// What a list of operands says.

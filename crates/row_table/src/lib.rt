@@ -21,7 +21,10 @@ pub use operations::{
     BitOp, CoreOp, CrossOp, GatherOp, GprOp, LaneOp, MacOp, MaskOp, Op, StringOp, VectorOp,
     WidthOp, XsaveOp,
 };
-pub use spelling::{are_bytes_there, do_registers_fit, is_vvvv_used, is_without_evex};
+pub use spelling::{
+    are_bytes_there, do_opmasks_fit, do_registers_fit, does_write_rm, is_memory, is_vvvv_used,
+    is_without_evex, is_without_prefixes,
+};
 
 #[cfg(test)]
 mod tests;

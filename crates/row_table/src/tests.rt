@@ -291,4 +291,11 @@ fn opcodes_have_their_shapes(rt: HostRuntime) {
         is_used(Class::Legacy, 2) && !is_used(Class::Legacy, 3) && !is_used(Class::Evex, 0)
     );
     assert!(rt; !is_used(Class::Vex, 0) && is_used(Class::Vex, 1) && is_used(Class::Vex, 3));
+    // KMOV, KSHIFTRB and VPADDD.
+    let mask = shape(Class::Vex, 1, 0x90).map(|s| (s.modrm, s.imm));
+    assert!(rt; mask == Some((true, 0)));
+    let shifted = shape(Class::Vex, 3, 0x30).map(|s| (s.modrm, s.imm));
+    assert!(rt; shifted == Some((true, 1)));
+    let sum = shape(Class::Evex, 1, 0xfe).map(|s| (s.modrm, s.imm));
+    assert!(rt; sum == Some((true, 0)) && is_used(Class::Evex, 1));
 }

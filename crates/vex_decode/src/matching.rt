@@ -1,19 +1,12 @@
 //! The row that the fields of a VEX instruction spell.
 ghost use Rattle.std.specs.Prelude.{◌≡◌};
 ghost use Rattle.row_table.specs.Spelling.{IsSpelling};
-ghost use Rattle.vex_decode.specs.Spelling.{without_prefixes, bits_fit, vvvv_fits, allowed, vex_encoding};
+ghost use Rattle.vex_decode.specs.Spelling.{bits_fit, vvvv_fits, allowed, vex_encoding};
 
 use row_table::{
-    Class, Decoded, Fields, Row, are_bytes_there, do_registers_fit, find, is_vvvv_used,
-    is_without_evex, row,
+    Class, Decoded, Fields, Row, are_bytes_there, do_opmasks_fit, do_registers_fit, find,
+    is_vvvv_used, is_without_evex, is_without_prefixes, row,
 };
-
-/// Whether none of the prefixes is there that may not stand before VEX.
-fn is_without_prefixes(fields: &Fields) -> bool
-    ensures { result ≡ without_prefixes fields.now }
-{
-    !fields.lock && !fields.p66 && fields.rep == 0 && !fields.rex
-}
 
 /// Whether L and pp are numbers of their bits.
 fn do_bits_fit(fields: &Fields) -> bool
@@ -36,6 +29,7 @@ fn is_allowed(row: &Row, fields: &Fields) -> bool
     is_without_prefixes(fields)
         && do_bits_fit(fields)
         && do_registers_fit(fields)
+        && do_opmasks_fit(row, fields)
         && does_vvvv_fit(row, fields)
         && are_bytes_there(fields)
         && is_without_evex(fields)

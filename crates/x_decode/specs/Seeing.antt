@@ -1,5 +1,5 @@
 -- What a decoder sees in some bytes: an instruction, the first bytes of one, or neither.
-use Rattle.std.specs.Prelude.{ℕ, ◌≡◌, ◌↔◌, ◌<◌, ◌≤◌, nat_lt, false, List, ◌++◌, length, Option, Some, None, ⊤, if◌then◌else◌}
+use Rattle.std.specs.Prelude.{ℕ, ◌≡◌, ◌↔◌, ◌<◌, ◌≤◌, nat_lt, List, ◌++◌, length, Option, Some, None, ⊤, if◌then◌else◌}
 use Rattle.row_table.specs.declared.kinds.Class.{Class}
 use Rattle.row_table.specs.declared.kinds.Class.TheVariants.{Legacy, Vex, Evex}
 use Rattle.row_table.specs.declared.kinds.Fields.{Fields}
@@ -12,18 +12,15 @@ use Rattle.form_scan.specs.Shaped.{most_bytes, within_limit, IsWhole, IsCut}
 use Rattle.form_scan.specs.Scanning.{scanned}
 use Rattle.legacy_decode.specs.Spelling.{legacy_encoding}
 use Rattle.vex_decode.specs.Spelling.{vex_encoding}
+use Rattle.evex_decode.specs.Spelling.{evex_encoding}
 use Rattle.x_decode.specs.declared.kinds.Seen.{Seen}
 use Rattle.x_decode.specs.declared.kinds.Seen.TheVariants.{Instr, Short, TooLong, Bad}
 
--- an encoding that has no instruction
-abbrev pub no_encoding : Encoding
-no_encoding = record { allows = λ r f. false; displacement = λ r f. f.disp }
-
--- the encoding of each class; the table has no row of EVEX yet
+-- the encoding of each class
 unfoldable pub encoding_of : Class → Encoding
 encoding_of Legacy = legacy_encoding
 encoding_of Vex = vex_encoding
-encoding_of Evex = no_encoding
+encoding_of Evex = evex_encoding
 
 -- the instruction is that of the fields, by the rules of their class: these fields, a row that they spell, and their displacement
 abbrev pub IsDecoded : Fields → Decoded → Type 0

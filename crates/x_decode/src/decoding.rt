@@ -3,6 +3,7 @@ ghost use Rattle.row_table.specs.Spelling.{IsSpelling};
 ghost use Rattle.x_decode.specs.Seeing.{encoding_of, IsSeen};
 
 use crate::kinds::Seen;
+use evex_decode::match_evex;
 use form_scan::{LIMIT, Scan, scan};
 use legacy_decode::match_legacy;
 use row_table::{Class, Decoded, Fields};
@@ -15,8 +16,7 @@ fn matched(fields: &Fields) -> Option<Decoded>
     match fields.class {
         Class::Legacy => match_legacy(fields),
         Class::Vex => match_vex(fields),
-        // The table has no row of it yet.
-        Class::Evex => None,
+        Class::Evex => match_evex(fields),
     }
 }
 

@@ -2,6 +2,8 @@
 use crate::*;
 use row_table::{BitOp, CoreOp, GprOp, Op, row};
 
+mod evex;
+mod opmasks;
 mod vectors;
 
 /// The name of the operation, of those that the test meets.
@@ -43,6 +45,7 @@ fn name(op: Op) -> &'static str {
         Op::Core(CoreOp::Vzeroall) => "vzeroall",
         Op::Lane(op) => vectors::lane_name(op),
         Op::Vector(op) => vectors::vector_name(op),
+        Op::Mask(op) => opmasks::mask_name(op),
         _ => "another",
     }
 }
@@ -66,7 +69,7 @@ fn told_of(bytes: &[u8]) -> Told {
 }
 
 /// Bytes, and what is seen in them.
-static SEEN_BYTES: [(&'static [u8], Told); 47] = [
+static SEEN_BYTES: [(&'static [u8], Told); 48] = [
     (&[0xf3, 0xc3], ("ret", 2, 0)),
     (&[0xc3, 0xc3], ("ret", 1, 0)),
     (&[0x0f, 0x05], ("syscall", 2, 0)),
@@ -114,8 +117,9 @@ static SEEN_BYTES: [(&'static [u8], Told); 47] = [
     (&[0xf2, 0x0f, 0x38, 0xf0, 0xc1], BAD),
     (&[0xf2, 0x0f, 0x38, 0xf0, 0x00], BAD),
     (&[0x8d, 0xc0], BAD),
-    // EVEX.
-    (&[0x62, 0xf1, 0x7d, 0x48, 0xfe, 0xc1], BAD),
+    // VPADDD of 512 bits, and the same behind an address size prefix.
+    (&[0x62, 0xf1, 0x7d, 0x48, 0xfe, 0xc1], ("padd", 6, 0)),
+    (&[0x67, 0x62, 0xf1, 0x7d, 0x48, 0xfe, 0xc1], ("padd", 7, 0)),
     // Ends within an instruction.
     (&[], SHORT),
     (&[0x66, 0x66, 0x66], SHORT),
@@ -407,6 +411,40 @@ fn vector_instructions_are_seen_as_the_assembler_writes_them(rt: HostRuntime) {
 #[test]
 fn what_no_vector_row_takes_is_refused(rt: HostRuntime) {
     for bytes in vectors::vector_refused() {
+        assert_eq!(rt; told_of(bytes), BAD, "at {bytes:?}");
+    }
+}
+
+#[test]
+fn instructions_of_evex_are_seen_as_the_assembler_writes_them(rt: HostRuntime) {
+    for (bytes, want) in evex::sum_bytes() {
+        assert_eq!(rt; vex_told_of(bytes), Some(*want), "at {bytes:?}");
+    }
+}
+
+#[test]
+fn no_instruction_of_evex_is_seen_in_other_bytes(rt: HostRuntime) {
+    for (bytes, want) in evex::evex_refused() {
+        assert_eq!(rt; told_of(bytes), *want, "at {bytes:?}");
+    }
+}
+
+#[test]
+fn instructions_on_opmasks_are_seen_as_the_assembler_writes_them(rt: HostRuntime) {
+    for (bytes, want) in opmasks::mask_logic_bytes() {
+        assert_eq!(rt; vex_told_of(bytes), Some(*want), "at {bytes:?}");
+    }
+    for (bytes, want) in opmasks::mask_move_bytes() {
+        assert_eq!(rt; vex_told_of(bytes), Some(*want), "at {bytes:?}");
+    }
+    for (bytes, want) in opmasks::masks_beside_others() {
+        assert_eq!(rt; vex_told_of(bytes), Some(*want), "at {bytes:?}");
+    }
+}
+
+#[test]
+fn what_no_opmask_row_takes_is_refused(rt: HostRuntime) {
+    for bytes in opmasks::masks_refused() {
         assert_eq!(rt; told_of(bytes), BAD, "at {bytes:?}");
     }
 }

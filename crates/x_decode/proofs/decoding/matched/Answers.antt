@@ -1,8 +1,7 @@
-use Rattle.std.proofs.Common.{refl, sym, subst}
+use Rattle.std.proofs.Common.{sym, subst}
 use Rattle.row_table.specs.declared.kinds.Class.{Class}
 use Rattle.row_table.specs.Spelling.{IsSpelling}
-use Rattle.row_table.proofs.Spelled.{nothing-allowed}
-use Rattle.x_decode.specs.Seeing.{encoding_of, no_encoding}
+use Rattle.x_decode.specs.Seeing.{encoding_of}
 use Rattle.x_decode.proofs.decoding.matched.Goals as goal
 
 pub returns-in-Legacy : goal.returns-in-Legacy
@@ -18,5 +17,4 @@ returns-in-Vex c =
 pub returns-in-Evex : goal.returns-in-Evex
 unfolding encoding_of
 returns-in-Evex c =
-    subst (λ (k : Class). IsSpelling (encoding_of k) c.args.fields.now _) (sym c.in-Evex.is)
-    (nothing-allowed no_encoding c.args.fields.now (λ r. refl))
+    subst (λ (k : Class). IsSpelling (encoding_of k) c.args.fields.now c.match_evex.result) (sym c.in-Evex.is) c.match_evex.ensures

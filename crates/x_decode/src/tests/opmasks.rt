@@ -1,0 +1,227 @@
+//! Instructions on opmask registers, as GNU's assembler writes them, and what is refused beside them.
+use super::VexTold;
+use row_table::MaskOp;
+
+/// The name of an operation on opmask registers.
+pub(super) fn mask_name(op: MaskOp) -> &'static str {
+    match op {
+        MaskOp::Kand => "kand",
+        MaskOp::Kandn => "kandn",
+        MaskOp::Kor => "kor",
+        MaskOp::Kxnor => "kxnor",
+        MaskOp::Kxor => "kxor",
+        MaskOp::Kadd => "kadd",
+        MaskOp::Kunpck => "kunpck",
+        MaskOp::Knot => "knot",
+        MaskOp::Kmov => "kmov",
+        MaskOp::Kortest => "kortest",
+        MaskOp::Ktest => "ktest",
+        MaskOp::Kshiftr => "kshiftr",
+        MaskOp::Kshiftl => "kshiftl",
+    }
+}
+
+/// Logic, sums and unpacks.
+#[rattlefmt::skip]
+static MASK_LOGIC: [(&'static [u8], VexTold); 31] = [
+    // kandb %k1,%k2,%k3
+    (&[0xc5, 0xed, 0x41, 0xd9], ("kand", 8, 4, 0, 2)),
+    // kandnb %k1,%k2,%k3
+    (&[0xc5, 0xed, 0x42, 0xd9], ("kandn", 8, 4, 0, 2)),
+    // korb %k1,%k2,%k3
+    (&[0xc5, 0xed, 0x45, 0xd9], ("kor", 8, 4, 0, 2)),
+    // kxnorb %k1,%k2,%k3
+    (&[0xc5, 0xed, 0x46, 0xd9], ("kxnor", 8, 4, 0, 2)),
+    // kxorb %k1,%k2,%k3
+    (&[0xc5, 0xed, 0x47, 0xd9], ("kxor", 8, 4, 0, 2)),
+    // kaddb %k1,%k2,%k3
+    (&[0xc5, 0xed, 0x4a, 0xd9], ("kadd", 8, 4, 0, 2)),
+    // knotb %k1,%k2
+    (&[0xc5, 0xf9, 0x44, 0xd1], ("knot", 8, 4, 0, 0)),
+    // kandw %k1,%k2,%k3
+    (&[0xc5, 0xec, 0x41, 0xd9], ("kand", 16, 4, 0, 2)),
+    // kandnw %k1,%k2,%k3
+    (&[0xc5, 0xec, 0x42, 0xd9], ("kandn", 16, 4, 0, 2)),
+    // korw %k1,%k2,%k3
+    (&[0xc5, 0xec, 0x45, 0xd9], ("kor", 16, 4, 0, 2)),
+    // kxnorw %k1,%k2,%k3
+    (&[0xc5, 0xec, 0x46, 0xd9], ("kxnor", 16, 4, 0, 2)),
+    // kxorw %k1,%k2,%k3
+    (&[0xc5, 0xec, 0x47, 0xd9], ("kxor", 16, 4, 0, 2)),
+    // kaddw %k1,%k2,%k3
+    (&[0xc5, 0xec, 0x4a, 0xd9], ("kadd", 16, 4, 0, 2)),
+    // knotw %k1,%k2
+    (&[0xc5, 0xf8, 0x44, 0xd1], ("knot", 16, 4, 0, 0)),
+    // kandd %k1,%k2,%k3
+    (&[0xc4, 0xe1, 0xed, 0x41, 0xd9], ("kand", 32, 5, 0, 2)),
+    // kandnd %k1,%k2,%k3
+    (&[0xc4, 0xe1, 0xed, 0x42, 0xd9], ("kandn", 32, 5, 0, 2)),
+    // kord %k1,%k2,%k3
+    (&[0xc4, 0xe1, 0xed, 0x45, 0xd9], ("kor", 32, 5, 0, 2)),
+    // kxnord %k1,%k2,%k3
+    (&[0xc4, 0xe1, 0xed, 0x46, 0xd9], ("kxnor", 32, 5, 0, 2)),
+    // kxord %k1,%k2,%k3
+    (&[0xc4, 0xe1, 0xed, 0x47, 0xd9], ("kxor", 32, 5, 0, 2)),
+    // kaddd %k1,%k2,%k3
+    (&[0xc4, 0xe1, 0xed, 0x4a, 0xd9], ("kadd", 32, 5, 0, 2)),
+    // knotd %k1,%k2
+    (&[0xc4, 0xe1, 0xf9, 0x44, 0xd1], ("knot", 32, 5, 0, 0)),
+    // kandq %k1,%k2,%k3
+    (&[0xc4, 0xe1, 0xec, 0x41, 0xd9], ("kand", 64, 5, 0, 2)),
+    // kandnq %k1,%k2,%k3
+    (&[0xc4, 0xe1, 0xec, 0x42, 0xd9], ("kandn", 64, 5, 0, 2)),
+    // korq %k1,%k2,%k3
+    (&[0xc4, 0xe1, 0xec, 0x45, 0xd9], ("kor", 64, 5, 0, 2)),
+    // kxnorq %k1,%k2,%k3
+    (&[0xc4, 0xe1, 0xec, 0x46, 0xd9], ("kxnor", 64, 5, 0, 2)),
+    // kxorq %k1,%k2,%k3
+    (&[0xc4, 0xe1, 0xec, 0x47, 0xd9], ("kxor", 64, 5, 0, 2)),
+    // kaddq %k1,%k2,%k3
+    (&[0xc4, 0xe1, 0xec, 0x4a, 0xd9], ("kadd", 64, 5, 0, 2)),
+    // knotq %k1,%k2
+    (&[0xc4, 0xe1, 0xf8, 0x44, 0xd1], ("knot", 64, 5, 0, 0)),
+    // kunpckbw %k1,%k2,%k3
+    (&[0xc5, 0xed, 0x4b, 0xd9], ("kunpck", 16, 4, 0, 2)),
+    // kunpckwd %k1,%k2,%k3
+    (&[0xc5, 0xec, 0x4b, 0xd9], ("kunpck", 32, 4, 0, 2)),
+    // kunpckdq %k1,%k2,%k3
+    (&[0xc4, 0xe1, 0xec, 0x4b, 0xd9], ("kunpck", 64, 5, 0, 2)),
+];
+
+/// Moves, tests and shifts.
+#[rattlefmt::skip]
+static MASK_MOVES: [(&'static [u8], VexTold); 36] = [
+    // kmovb %k1,%k2
+    (&[0xc5, 0xf9, 0x90, 0xd1], ("kmov", 8, 4, 0, 0)),
+    // kmovb 0x8(%r8),%k2
+    (&[0xc4, 0xc1, 0x79, 0x90, 0x50, 0x08], ("kmov", 8, 6, 8, 0)),
+    // kmovb %k7,-0x8(%rax,%r9,4)
+    (&[0xc4, 0xa1, 0x79, 0x91, 0x7c, 0x88, 0xf8], ("kmov", 8, 7, -8, 0)),
+    // kmovb %eax,%k7
+    (&[0xc5, 0xf9, 0x92, 0xf8], ("kmov", 8, 4, 0, 0)),
+    // kmovb %k7,%eax
+    (&[0xc5, 0xf9, 0x93, 0xc7], ("kmov", 8, 4, 0, 0)),
+    // kortestb %k1,%k2
+    (&[0xc5, 0xf9, 0x98, 0xd1], ("kortest", 8, 4, 0, 0)),
+    // ktestb %k1,%k2
+    (&[0xc5, 0xf9, 0x99, 0xd1], ("ktest", 8, 4, 0, 0)),
+    // kshiftrb $0x5,%k1,%k2
+    (&[0xc4, 0xe3, 0x79, 0x30, 0xd1, 0x05], ("kshiftr", 8, 6, 0, 0)),
+    // kshiftlb $0x5,%k1,%k2
+    (&[0xc4, 0xe3, 0x79, 0x32, 0xd1, 0x05], ("kshiftl", 8, 6, 0, 0)),
+    // kmovw %k1,%k2
+    (&[0xc5, 0xf8, 0x90, 0xd1], ("kmov", 16, 4, 0, 0)),
+    // kmovw 0x8(%r8),%k2
+    (&[0xc4, 0xc1, 0x78, 0x90, 0x50, 0x08], ("kmov", 16, 6, 8, 0)),
+    // kmovw %k7,-0x8(%rax,%r9,4)
+    (&[0xc4, 0xa1, 0x78, 0x91, 0x7c, 0x88, 0xf8], ("kmov", 16, 7, -8, 0)),
+    // kmovw %ecx,%k7
+    (&[0xc5, 0xf8, 0x92, 0xf9], ("kmov", 16, 4, 0, 0)),
+    // kmovw %k7,%ecx
+    (&[0xc5, 0xf8, 0x93, 0xcf], ("kmov", 16, 4, 0, 0)),
+    // kortestw %k1,%k2
+    (&[0xc5, 0xf8, 0x98, 0xd1], ("kortest", 16, 4, 0, 0)),
+    // ktestw %k1,%k2
+    (&[0xc5, 0xf8, 0x99, 0xd1], ("ktest", 16, 4, 0, 0)),
+    // kshiftrw $0x5,%k1,%k2
+    (&[0xc4, 0xe3, 0xf9, 0x30, 0xd1, 0x05], ("kshiftr", 16, 6, 0, 0)),
+    // kshiftlw $0x5,%k1,%k2
+    (&[0xc4, 0xe3, 0xf9, 0x32, 0xd1, 0x05], ("kshiftl", 16, 6, 0, 0)),
+    // kmovd %k1,%k2
+    (&[0xc4, 0xe1, 0xf9, 0x90, 0xd1], ("kmov", 32, 5, 0, 0)),
+    // kmovd 0x8(%r8),%k2
+    (&[0xc4, 0xc1, 0xf9, 0x90, 0x50, 0x08], ("kmov", 32, 6, 8, 0)),
+    // kmovd %k7,-0x8(%rax,%r9,4)
+    (&[0xc4, 0xa1, 0xf9, 0x91, 0x7c, 0x88, 0xf8], ("kmov", 32, 7, -8, 0)),
+    // kmovd %r9d,%k7
+    (&[0xc4, 0xc1, 0x7b, 0x92, 0xf9], ("kmov", 32, 5, 0, 0)),
+    // kmovd %k7,%r9d
+    (&[0xc5, 0x7b, 0x93, 0xcf], ("kmov", 32, 4, 0, 0)),
+    // kortestd %k1,%k2
+    (&[0xc4, 0xe1, 0xf9, 0x98, 0xd1], ("kortest", 32, 5, 0, 0)),
+    // ktestd %k1,%k2
+    (&[0xc4, 0xe1, 0xf9, 0x99, 0xd1], ("ktest", 32, 5, 0, 0)),
+    // kshiftrd $0x5,%k1,%k2
+    (&[0xc4, 0xe3, 0x79, 0x31, 0xd1, 0x05], ("kshiftr", 32, 6, 0, 0)),
+    // kshiftld $0x5,%k1,%k2
+    (&[0xc4, 0xe3, 0x79, 0x33, 0xd1, 0x05], ("kshiftl", 32, 6, 0, 0)),
+    // kmovq %k1,%k2
+    (&[0xc4, 0xe1, 0xf8, 0x90, 0xd1], ("kmov", 64, 5, 0, 0)),
+    // kmovq 0x8(%r8),%k2
+    (&[0xc4, 0xc1, 0xf8, 0x90, 0x50, 0x08], ("kmov", 64, 6, 8, 0)),
+    // kmovq %k7,-0x8(%rax,%r9,4)
+    (&[0xc4, 0xa1, 0xf8, 0x91, 0x7c, 0x88, 0xf8], ("kmov", 64, 7, -8, 0)),
+    // kmovq %r10,%k7
+    (&[0xc4, 0xc1, 0xfb, 0x92, 0xfa], ("kmov", 64, 5, 0, 0)),
+    // kmovq %k7,%r10
+    (&[0xc4, 0x61, 0xfb, 0x93, 0xd7], ("kmov", 64, 5, 0, 0)),
+    // kortestq %k1,%k2
+    (&[0xc4, 0xe1, 0xf8, 0x98, 0xd1], ("kortest", 64, 5, 0, 0)),
+    // ktestq %k1,%k2
+    (&[0xc4, 0xe1, 0xf8, 0x99, 0xd1], ("ktest", 64, 5, 0, 0)),
+    // kshiftrq $0x5,%k1,%k2
+    (&[0xc4, 0xe3, 0xf9, 0x31, 0xd1, 0x05], ("kshiftr", 64, 6, 0, 0)),
+    // kshiftlq $0x5,%k1,%k2
+    (&[0xc4, 0xe3, 0xf9, 0x33, 0xd1, 0x05], ("kshiftl", 64, 6, 0, 0)),
+];
+
+pub(super) fn mask_logic_bytes() -> &'static [(&'static [u8], VexTold)] {
+    &MASK_LOGIC
+}
+
+pub(super) fn mask_move_bytes() -> &'static [(&'static [u8], VexTold)] {
+    &MASK_MOVES
+}
+
+/// What no row takes.
+#[rattlefmt::skip]
+static MASKS_REFUSED: [&'static [u8]; 22] = [
+    // A number above 7: in ModRM.reg with R, in vvvv, and in ModRM.r/m with B.
+    &[0xc5, 0x6c, 0x41, 0xd9],
+    &[0xc5, 0xac, 0x41, 0xd9],
+    &[0xc4, 0xc1, 0x6c, 0x41, 0xd9],
+    &[0xc4, 0xc1, 0x78, 0x44, 0xd1],
+    &[0xc5, 0x78, 0x90, 0xd1],
+    &[0xc5, 0x78, 0x90, 0x08],
+    &[0xc5, 0x78, 0x91, 0x08],
+    &[0xc5, 0x78, 0x92, 0xc8],
+    &[0xc4, 0xc1, 0x78, 0x93, 0xc9],
+    &[0xc4, 0x63, 0x79, 0x30, 0xd1, 5],
+    // L that the row doesn't have: KAND without it, KNOT, KMOV and KSHIFTR with it.
+    &[0xc5, 0xe8, 0x41, 0xd9],
+    &[0xc5, 0xfc, 0x44, 0xd1],
+    &[0xc5, 0xfc, 0x90, 0xd1],
+    &[0xc4, 0xe3, 0x7d, 0x30, 0xd1, 5],
+    // vvvv isn't 1111 where it has no use: KNOT, KMOV, KORTEST, KSHIFTL.
+    &[0xc5, 0xe8, 0x44, 0xd1],
+    &[0xc5, 0xe8, 0x90, 0xd1],
+    &[0xc5, 0xe8, 0x98, 0xd1],
+    &[0xc4, 0xe3, 0x69, 0x32, 0xd1, 5],
+    // Memory where a register is needed, and a register where memory is: KAND, KMOV from a general register, KMOV to memory.
+    &[0xc5, 0xec, 0x41, 0x08],
+    &[0xc5, 0xf8, 0x92, 0x08],
+    &[0xc5, 0xf8, 0x91, 0xc8],
+    // KMOV from a general register with F2 is of 32 or 64 bits, with 66 and W it is none.
+    &[0xc4, 0xe1, 0xf9, 0x92, 0xc8],
+];
+
+pub(super) fn masks_refused() -> &'static [&'static [u8]] {
+    &MASKS_REFUSED
+}
+
+/// Where the high bit belongs to a general register or an address, and where VEX.X has no use.
+#[rattlefmt::skip]
+static MASKS_BESIDE_OTHERS: [(&'static [u8], VexTold); 4] = [
+    // kmovw %r8d,%k1
+    (&[0xc4, 0xc1, 0x78, 0x92, 0xc8], ("kmov", 16, 5, 0, 0)),
+    // kmovw %k1,%r9d
+    (&[0xc5, 0x78, 0x93, 0xc9], ("kmov", 16, 4, 0, 0)),
+    // kmovw (%r8,%r9,1),%k1
+    (&[0xc4, 0x81, 0x78, 0x90, 0x0c, 0x08], ("kmov", 16, 6, 0, 0)),
+    // kandw %k1,%k2,%k3 with X
+    (&[0xc4, 0xa1, 0x6c, 0x41, 0xd9], ("kand", 16, 5, 0, 2)),
+];
+
+pub(super) fn masks_beside_others() -> &'static [(&'static [u8], VexTold)] {
+    &MASKS_BESIDE_OTHERS
+}
