@@ -75,8 +75,8 @@ pub run_trail-goes_on : (files : Files) (w : World) (steps : ℕ) → (step w).e
 unfolding run_trail
 run_trail-goes_on files w steps on =
     let P : Option GuestEnd → Type 0 = λ v.
-        (step_piece files w ∷ elim v [ None ↦ run_trail files (step w).world steps | Some end ↦ [] ])
-            ≡ (step_piece files w ∷ run_trail files (step w).world steps) in
+    (step_piece files w ∷ elim v [ None ↦ run_trail files (step w).world steps | Some end ↦ [] ])
+    ≡ (step_piece files w ∷ run_trail files (step w).world steps) in
     subst P (sym on) refl
 
 pub run_trail-ends : (files : Files) (w : World) (steps : ℕ) (end : GuestEnd) → (step w).end ≡ Some end
@@ -84,7 +84,7 @@ pub run_trail-ends : (files : Files) (w : World) (steps : ℕ) (end : GuestEnd) 
 unfolding run_trail
 run_trail-ends files w steps end is =
     let P : Option GuestEnd → Type 0 = λ v.
-        (step_piece files w ∷ elim v [ None ↦ run_trail files (step w).world steps | Some end ↦ [] ]) ≡ (step_piece files w ∷ []) in
+    (step_piece files w ∷ elim v [ None ↦ run_trail files (step w).world steps | Some end ↦ [] ]) ≡ (step_piece files w ∷ []) in
     subst P (sym is) refl
 
 pub run_trail-none : (files : Files) (w : World) → run_trail files w 0 ≡ []

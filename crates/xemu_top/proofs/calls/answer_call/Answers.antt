@@ -11,7 +11,7 @@ returns-in-1-clause-works g c = record {
   follows = λ swap held left files from stands.
       called-write
       (λ (to : Ran) (calls : List HostCall). Follows (IsOutside held left (g.O.Sink.taken c.write.new.out) (g.E.Sink.taken c.write.new.err)) swap
-          c.write.new.machine files from to calls c.write.result)
+      c.write.new.machine files from to calls c.write.result)
       from (sym c.in-1.is ∙ c.get.ensures ∙ ap rax stands.state) (c.write.ensures.works.follows swap held left files from stands);
   course = c.write.ensures.works.course;
   signal = c.write.ensures.works.signal;

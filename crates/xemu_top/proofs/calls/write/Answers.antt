@@ -14,7 +14,7 @@ returns-in-Some-clause-works g c = record {
   follows = λ swap held left files from stands.
       by_arguments
       (λ (place : Option Descriptor) (addr count : ℕ). Follows (IsOutside held left (g.O.Sink.taken c.write_stream.new.out) (g.E.Sink.taken c.write_stream.new.err)) swap
-          c.write_stream.new.machine files from (goes_on (write_to place addr count from)) (calls_in_write place addr count from) c.write_stream.result)
+      c.write_stream.new.machine files from (goes_on (write_to place addr count from)) (calls_in_write place addr count from) c.write_stream.result)
       _ (write_place from) _ (rsi from.state) _ (write_count from.state)
       (write_place-is from _ c.get-descriptor.result _ stands.descriptors stands.state c.get-descriptor.ensures
       (stream_of-some (first_descriptors (c.get-descriptor.result % 2 ^ 32)) c.in-Some.stream c.in-Some.ensures))
@@ -30,13 +30,13 @@ returns-in-None-clause-works g c = record {
   follows = λ swap held left files from stands.
       by_arguments
       (λ (place : Option Descriptor) (addr count : ℕ). Follows (IsOutside held left (g.O.Sink.taken c.args.out.now) (g.E.Sink.taken c.args.err.now)) swap
-          c.set_answer.new.machine files from (goes_on (write_to place addr count from)) (calls_in_write place addr count from) (Ok None))
+      c.set_answer.new.machine files from (goes_on (write_to place addr count from)) (calls_in_write place addr count from) (Ok None))
       (first_descriptors (c.get-descriptor.result % 2 ^ 32)) (write_place from) _ (rsi from.state) _ (write_count from.state)
       (write_place-is from _ c.get-descriptor.result _ stands.descriptors stands.state c.get-descriptor.ensures refl)
       refl refl
       (no_stream
       (λ (w : World) (calls : List HostCall). Follows (IsOutside held left (g.O.Sink.taken c.args.out.now) (g.E.Sink.taken c.args.err.now)) swap
-          c.set_answer.new.machine files from (goes_on w) calls (Ok None))
+      c.set_answer.new.machine files from (goes_on w) calls (Ok None))
       (first_descriptors (c.get-descriptor.result % 2 ^ 32)) (rsi from.state) (write_count from.state) from c.in-None.ensures
       (follows-whole _ swap files from stands.descriptors stands.outside_is c.set_answer.new.machine (answered from.state bad_descriptor) None _
       (c.set_answer.ensures.state swap from.state stands.state)));

@@ -33,7 +33,7 @@ returns-in-Instr-clause-works g c = record {
   follows = λ swap held left files from stands.
       by_part
       (λ (to : Ran) (calls : List HostCall). Follows (IsOutside held left (g.O.Sink.taken c.perform.new.out) (g.E.Sink.taken c.perform.new.err)) swap
-          c.perform.new.machine files from to calls c.perform.result)
+      c.perform.new.machine files from to calls c.perform.result)
       from (performed c.in-Instr.d c.in-Instr.len from.state)
       (act-fetched from.state (Instr c.in-Instr.d c.in-Instr.len)
       (fetched_from (state_of c.args.machine.now swap) from.state _ _ (c.fetch_by.ensures.whole swap) stands.state c.in-Instr.is))
@@ -48,7 +48,7 @@ returns-in-Trap-clause-works g c = record {
       rw (c.kill.ensures.end, c.kill.ensures.machine)
       (by_part
       (λ (to : Ran) (calls : List HostCall). Follows (IsOutside held left (g.O.Sink.taken c.args.out.now) (g.E.Sink.taken c.args.err.now)) swap
-          (record c.args.machine.now { steps = c.args.machine.now.steps + 1 }) files from to calls (Ok (Some (Killed (signal_of c.in-Trap.fault)))))
+      (record c.args.machine.now { steps = c.args.machine.now.steps + 1 }) files from to calls (Ok (Some (Killed (signal_of c.in-Trap.fault)))))
       from (trapped c.in-Trap.fault from.state)
       (act-fetched from.state (Trap c.in-Trap.fault)
       (fetched_from (state_of c.args.machine.now swap) from.state _ _ (c.fetch_by.ensures.whole swap) stands.state c.in-Trap.is))
