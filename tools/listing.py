@@ -15,6 +15,9 @@ TO_MEMORY = "Eb Ev EbGb EvGv EbIb EvIb EvIz M".split()
 MEMORY_ONLY = "M GvM MvGv VxMx MxVx VxHxMx MxHxVx VxVm VxVmHx VmVx MxKx".split()
 REGISTER_ONLY = "R HxUxIb UxIb VxHxUx UxHxVx VxUx UxVx VxRv GvUx GvUxIb KxUx VxKx KxKx KxKxKx KxKxIb KxRv GvKx".split()
 
+# The operands whose first may be in memory, of those on vectors.
+STORES = "WxVx WxVxIb MxVx MxHxVx EvVx EvVxIb VmVx".split()
+
 Row = collections.namedtuple("Row", "kind map mark opcode digit w lengths operands width part op level tuple mask")
 
 # What stands before an instruction's operands. `kind`: legacy, vex or evex; `front`: the legacy prefixes and REX; `mark`: the

@@ -24,7 +24,7 @@ use Rattle.row_table.specs.declared.operations.MaskOp.TheVariants.{Kand}
 use Rattle.row_table.specs.Letters.{layout_of, letters}
 use Rattle.row_table.specs.Legacy.{legacy, one_byte, two_byte, three_byte}
 use Rattle.row_table.specs.Vex.{vex_rows, vex_0f, vex_0f38, vex_0f3a}
-use Rattle.row_table.specs.Evex.{evex_rows, evex_0f}
+use Rattle.row_table.specs.Evex.{evex_rows, evex_0f, evex_0f38, evex_0f3a}
 use Rattle.row_table.specs.Rows.{rows}
 use Rattle.core_step.specs.declared.acted.Acted.{Acted}
 use Rattle.core_step.specs.declared.acted.Acted.TheVariants.{Done, Trap}
@@ -59,7 +59,7 @@ all_performed [] = true
 all_performed (row ∷ rest) = is_row_performed row && all_performed rest
 
 rows-performed : all_performed rows ≡ true
-unfolding all_performed is_performed core_performed core_way spots_of core_roles gpr_roles bit_roles mask_roles layout_of letters rows legacy one_byte two_byte three_byte vex_rows vex_0f vex_0f38 vex_0f3a evex_rows evex_0f
+unfolding all_performed is_performed core_performed core_way spots_of core_roles gpr_roles bit_roles mask_roles layout_of letters rows legacy one_byte two_byte three_byte vex_rows vex_0f vex_0f38 vex_0f3a evex_rows evex_0f evex_0f38 evex_0f3a
 rows-performed = refl
 
 same_row : (row other : Row) → some row ≡ some other → row ≡ other

@@ -72,6 +72,14 @@ number_of_bits (suc n) f = f n * 2 ^ n + number_of_bits n f
 abbrev pub ternary : (n imm d a b : ℕ) → ℕ
 ternary n imm d a b = number_of_bits n (λ i. bit_at imm (4 * bit_at d i + 2 * bit_at a i + bit_at b i))
 
+-- lane i is in the lower half of 128 bits
+abbrev pub is_lower : (n i : ℕ) → Bool
+is_lower n i = nat_lt (i * n) 64
+
+-- how many lanes a half has
+abbrev pub half_lanes : (n : ℕ) → ℕ
+half_lanes n = 64 / n
+
 -- ---- by operation
 -- lane i of the result, of which the low n bits count: by the lanes of n bits of the destination d, the first operand a and the
 -- second b, each by its number, the immediate, and the count, which is the low 64 bits of the second operand
@@ -128,9 +136,9 @@ lane_raw Movss n imm d a b count i = if i == 0 then b i else a i
 lane_raw MovssLoad n imm d a b count i = if i == 0 then b i else 0
 lane_raw Movsd n imm d a b count i = if i == 0 then b i else a i
 lane_raw MovsdLoad n imm d a b count i = if i == 0 then b i else 0
-lane_raw Movlp n imm d a b count i = if i == 0 then b i else a i
-lane_raw Movhp n imm d a b count i = if i == 0 then a i else b (i - 1)
-lane_raw MovhpStore n imm d a b count i = b 1
+lane_raw Movlp n imm d a b count i = if is_lower n i then b i else a i
+lane_raw Movhp n imm d a b count i = if is_lower n i then a i else b (i - half_lanes n)
+lane_raw MovhpStore n imm d a b count i = if is_lower n i then b (i + half_lanes n) else 0
 lane_raw Movhlps n imm d a b count i = if i == 0 then b 1 else a i
 lane_raw Movlhps n imm d a b count i = if i == 0 then a i else b (i - 1)
 lane_raw Movddup n imm d a b count i = b (i / 2 * 2)

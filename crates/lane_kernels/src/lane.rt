@@ -1,8 +1,8 @@
 //! One lane of an operation.
-ghost use Rattle.std.specs.Prelude.{◌≡◌, ◌+◌, ◌*◌, ◌/◌, ◌%◌, ◌^◌, ◌<◌, ◌≤◌, length, IsTrue};
+ghost use Rattle.std.specs.Prelude.{◌≡◌, ◌+◌, ◌-◌, ◌*◌, ◌/◌, ◌%◌, ◌^◌, ◌<◌, ◌≤◌, if◌then◌else◌, length, IsTrue};
 ghost use Rattle.gpr_flags.specs.Registers.{is_size};
 ghost use Rattle.num_lanes.specs.Lane.{IsLength, lane_of};
-ghost use Rattle.lane_kernels.specs.LaneOps.{lane_raw};
+ghost use Rattle.lane_kernels.specs.LaneOps.{is_lower, half_lanes, lane_raw};
 
 use crate::bitwise::ternary;
 use crate::shifts::{left, right, right_signed, rotated_left, rotated_right};
@@ -26,6 +26,39 @@ fn of_pair<const W: usize>(second: &[u8], lane: usize, upper: usize) -> u64
     ensures { result ≡ lane_of W second.now (lane / 2 * 2 + upper) }
 {
     get_lane::<W>(second, lane / 2 * 2 + upper)
+}
+
+/// Whether a lane is in the lower half of 128 bits.
+fn is_in_lower_half<const W: usize>(lane: usize) -> bool
+    requires width { IsTrue (is_size W) }
+    requires in_range { lane * W + W ≤ 64 }
+    ensures { result ≡ is_lower (8 * W) lane }
+{
+    lane * W < 8
+}
+
+/// The second operand's lane that is a half of 128 bits below `lane`.
+fn half_below<const W: usize>(second: &[u8], lane: usize) -> u64
+    requires width { IsTrue (is_size W) }
+    requires length { IsLength (length second.now) }
+    requires in_range { lane * W + W ≤ length second.now }
+    ensures { result ≡ lane_of W second.now (lane - half_lanes (8 * W)) }
+{
+    get_lane::<W>(second, lane.saturating_sub(8 / W))
+}
+
+/// The second operand's lane that is a half of 128 bits above `lane`, where that is in the lower half.
+fn half_above<const W: usize>(second: &[u8], lane: usize) -> u64
+    requires width { IsTrue (is_size W) }
+    requires length { IsLength (length second.now) }
+    requires in_range { lane * W + W ≤ length second.now }
+    ensures { result ≡ if is_lower (8 * W) lane then lane_of W second.now (lane + half_lanes (8 * W)) else 0 }
+{
+    if is_in_lower_half::<W>(lane) {
+        get_lane::<W>(second, lane + 8 / W)
+    } else {
+        0
+    }
 }
 
 /// A number of which the low bits are a lane of an operation's result.
@@ -98,12 +131,16 @@ pub(crate) fn one_lane<const W: usize>(
         LaneOp::Movd | LaneOp::Movq | LaneOp::MovssLoad | LaneOp::MovsdLoad => {
             choose(lane == 0, b, 0)
         }
-        LaneOp::Movss | LaneOp::Movsd | LaneOp::Movlp => choose(lane == 0, b, a),
-        LaneOp::MovhpStore => get_lane::<W>(second, 1),
+        LaneOp::Movss | LaneOp::Movsd => choose(lane == 0, b, a),
+        LaneOp::Movlp => choose(is_in_lower_half::<W>(lane), b, a),
+        LaneOp::Movhp => choose(
+            is_in_lower_half::<W>(lane),
+            a,
+            half_below::<W>(second, lane),
+        ),
+        LaneOp::MovhpStore => half_above::<W>(second, lane),
         LaneOp::Movhlps => choose(lane == 0, get_lane::<W>(second, 1), a),
-        LaneOp::Movhp | LaneOp::Movlhps => {
-            choose(lane == 0, a, get_lane::<W>(second, lane.saturating_sub(1)))
-        }
+        LaneOp::Movlhps => choose(lane == 0, a, get_lane::<W>(second, lane.saturating_sub(1))),
         LaneOp::Movddup | LaneOp::Movsldup => of_pair::<W>(second, lane, 0),
         LaneOp::Movshdup => of_pair::<W>(second, lane, 1),
     }

@@ -2,7 +2,7 @@
 use Rattle.std.proofs.Common.{◌≡◌, true, refl, sym, subst, length}
 use Rattle.row_table.specs.Legacy.{legacy, one_byte, two_byte, three_byte}
 use Rattle.row_table.specs.Vex.{vex_rows, vex_0f, vex_0f38, vex_0f3a}
-use Rattle.row_table.specs.Evex.{evex_rows, evex_0f}
+use Rattle.row_table.specs.Evex.{evex_rows, evex_0f, evex_0f38, evex_0f3a}
 use Rattle.row_table.specs.Letters.{layout_of, letters}
 use Rattle.row_table.specs.Rows.{rows, table, starts}
 use Rattle.row_table.proofs.Index.{index_fits, indexed, passes_by, ranged, rises, at_most}
@@ -11,7 +11,7 @@ use Rattle.row_table.proofs.Tuples.{tupled}
 
 -- the rows of the definition are those of the code
 pub rows-table : rows ≡ table
-unfolding rows legacy one_byte two_byte three_byte vex_rows vex_0f vex_0f38 vex_0f3a evex_rows evex_0f table
+unfolding rows legacy one_byte two_byte three_byte vex_rows vex_0f vex_0f38 vex_0f3a evex_rows evex_0f evex_0f38 evex_0f3a table
 rows-table = refl
 
 table-indexed : index_fits starts table ≡ true

@@ -10,7 +10,7 @@ use Rattle.row_table.specs.declared.operations.GprOp.TheVariants.{Add, Or, Adc, 
 use Rattle.row_table.specs.declared.operations.BitOp.TheVariants.{Shld, Shrd, Bt, Bts, Btr, Btc, Popcnt, Bsf, Tzcnt, Bsr, Lzcnt}
 use Rattle.row_table.specs.Lines.{sized, byte, always, scalar, digit, without_w, with_w, np, p66, pf3, aligned, level_3, opcodes, registers, conditions, by_w, arithmetic, group_1, group_2, group_3, group_8, in_map}
 use Rattle.row_table.specs.VectorLines.{Sse}
-use Rattle.row_table.specs.Simd.{simd_10, simd_28, simd_50, simd_7e, simd_d1, simd_0f38}
+use Rattle.row_table.specs.Simd.{simd_10, simd_28, simd_50, simd_7e, simd_d1, simd_08, simd_37}
 
 -- the one-byte map (table A-2)
 unfoldable pub one_byte : List Row
@@ -163,7 +163,7 @@ two_byte =
 unfoldable pub three_byte : List Row
 three_byte =
     -- 08 to 3F: vector instructions
-    simd_0f38 Sse
+    simd_08 Sse ++ simd_37 Sse
     -- NP F0, 66 F0, memory only: MOVBE Gv,Mv
     ++ level_3 (np (sized 0xF0 GvM (Core Movbe))) ∷ level_3 (p66 (sized 0xF0 GvM (Core Movbe)))
     -- NP F1, 66 F1, memory only: MOVBE Mv,Gv

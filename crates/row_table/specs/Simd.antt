@@ -131,18 +131,24 @@ simd_d1 c =
     ∷ p66 (two_sources c 0xFC 8 (Lane Padd)) ∷ p66 (two_sources c 0xFD 16 (Lane Padd))
     ∷ p66 (two_sources c 0xFE 32 (Lane Padd)) ∷ []
 
--- ---- the map of 0F38 (table A-4), 08 to 3F, all with 66
-abbrev pub simd_0f38 : Coding → List Row
-simd_0f38 c = map p66 (
+-- ---- the map of 0F38 (table A-4), all with 66
+-- 08 to 2A
+abbrev pub simd_08 : Coding → List Row
+simd_08 c = map p66 (
     -- 08, 09, 0A: PSIGNB, PSIGNW, PSIGND
     two_sources c 0x08 8 (Lane Psign) ∷ two_sources c 0x09 16 (Lane Psign) ∷ two_sources c 0x0A 32 (Lane Psign)
     -- 17: PTEST
     ∷ one_source c 0x17 64 (Vector Ptest)
     -- 1C, 1D, 1E: PABSB, PABSW, PABSD
     ∷ one_source c 0x1C 8 (Lane Pabs) ∷ one_source c 0x1D 16 (Lane Pabs) ∷ one_source c 0x1E 32 (Lane Pabs)
-    -- 29: PCMPEQQ; 2A, memory only: MOVNTDQA; 37: PCMPGTQ
-    ∷ two_sources c 0x29 64 (Lane Pcmpeq) ∷ to_its_size (vector c 0x2A VxMx 32 (Lane Movntdqa))
-    ∷ two_sources c 0x37 64 (Lane Pcmpgt)
+    -- 29: PCMPEQQ; 2A, memory only: MOVNTDQA
+    ∷ two_sources c 0x29 64 (Lane Pcmpeq) ∷ to_its_size (vector c 0x2A VxMx 32 (Lane Movntdqa)) ∷ [])
+
+-- 37 to 3F
+abbrev pub simd_37 : Coding → List Row
+simd_37 c = map p66 (
+    -- 37: PCMPGTQ
+    two_sources c 0x37 64 (Lane Pcmpgt)
     -- 38 to 3B: PMINSB, PMINSD, PMINUW, PMINUD
     ∷ two_sources c 0x38 8 (Lane Pmins) ∷ two_sources c 0x39 32 (Lane Pmins)
     ∷ two_sources c 0x3A 16 (Lane Pminu) ∷ two_sources c 0x3B 32 (Lane Pminu)

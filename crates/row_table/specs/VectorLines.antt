@@ -1,8 +1,9 @@
 -- The words in which the listing of the vector rows is written.
 use Rattle.std.specs.Prelude.{ℕ, true, List, [], ◌∷◌}
 use Rattle.row_table.specs.declared.kinds.Operands.{Operands}
-use Rattle.row_table.specs.declared.kinds.Operands.TheVariants.{VxWx, VxHxWx, VxWdq, VxHxWdq, UxIb, HxUxIb}
+use Rattle.row_table.specs.declared.kinds.Operands.TheVariants.{VxWx, VxHxWx, VxWdq, VxHxWdq, UxIb, HxUxIb, VxHxMx, MxHxVx}
 use Rattle.row_table.specs.declared.kinds.Tuple.TheVariants.{Mem128, T1S}
+use Rattle.row_table.specs.declared.kinds.MaskKind.TheVariants.{Signs, SignsZero}
 use Rattle.row_table.specs.declared.kinds.Align.TheVariants.{Size}
 use Rattle.row_table.specs.declared.kinds.Row.{Row}
 use Rattle.row_table.specs.declared.operations.Op.{Op}
@@ -72,3 +73,11 @@ by_float row = np (row 32) ∷ p66 (row 64) ∷ []
 -- the same, of one element of 64 bits in memory and of 128 bits alone, whichever number is there
 abbrev pub element_by_float : Row → List Row
 element_by_float row = by_float (λ width. of_128 (element row))
+
+-- a load or a store of AVX of the lanes whose signs the register in vvvv has as 1: of the others a load makes 0, and a store changes
+-- none
+abbrev pub loaded_by_signs : ℕ → ℕ → Op → Row
+loaded_by_signs opcode width op = record (vector Avx opcode VxHxMx width op) { mask = SignsZero }
+
+abbrev pub stored_by_signs : ℕ → ℕ → Op → Row
+stored_by_signs opcode width op = record (vector Avx opcode MxHxVx width op) { mask = Signs }

@@ -7,12 +7,12 @@ use Rattle.row_table.specs.declared.operations.Op.TheVariants.{Core, Gpr, Bit, L
 use Rattle.row_table.specs.declared.operations.CoreOp.TheVariants.{Ldmxcsr, Stmxcsr, Vzeroupper, Vzeroall}
 use Rattle.row_table.specs.declared.operations.GprOp.TheVariants.{Mulx}
 use Rattle.row_table.specs.declared.operations.BitOp.TheVariants.{Andn, Blsr, Blsmsk, Blsi, Bzhi, Pext, Pdep, Bextr, Shlx, Sarx, Shrx, Rorx}
-use Rattle.row_table.specs.declared.operations.LaneOp.TheVariants.{Vpsrlv, Vpsrav, Vpsllv}
+use Rattle.row_table.specs.declared.operations.LaneOp.TheVariants.{Vpsrlv, Vpsrav, Vpsllv, Vpmaskmov, Vmaskmov}
 use Rattle.row_table.specs.declared.operations.MaskOp.TheVariants.{Kand, Kandn, Kor, Kxnor, Kxor, Kadd, Kunpck, Knot, Kmov, Kortest, Ktest, Kshiftr, Kshiftl}
 use Rattle.row_table.specs.Lines.{vex, digit, without_w, with_w, np, p66, pf3, pf2, by_w, by_w_of, in_map}
 use Rattle.row_table.specs.OpmaskLines.{opmask, with_l, by_mark, by_general_mark}
-use Rattle.row_table.specs.VectorLines.{Avx, vector, of_128, of_256}
-use Rattle.row_table.specs.Simd.{simd_10, simd_28, simd_50, simd_7e, simd_d1, simd_0f38}
+use Rattle.row_table.specs.VectorLines.{Avx, vector, of_128, of_256, loaded_by_signs, stored_by_signs}
+use Rattle.row_table.specs.Simd.{simd_10, simd_28, simd_50, simd_7e, simd_d1, simd_08, simd_37}
 
 -- the map of 0F (table A-3)
 unfoldable pub vex_0f : List Row
@@ -47,12 +47,19 @@ vex_0f =
 -- the map of 0F38 (table A-4), where y is 32 bits, and 64 with W
 unfoldable pub vex_0f38 : List Row
 vex_0f38 =
-    -- 08 to 3F: those that are vector instructions of the legacy class, too
-    simd_0f38 Avx
+    -- 08 to 2A: those that are vector instructions of the legacy class, too
+    simd_08 Avx
+    -- 66 2C, 2D without W, memory only: VMASKMOVPS, VMASKMOVPD Vx,Hx,Mx; 66 2E, 2F: Mx,Hx,Vx; the mask is in Hx
+    ++ p66 (without_w (loaded_by_signs 0x2C 32 (Lane Vmaskmov))) ∷ p66 (without_w (loaded_by_signs 0x2D 64 (Lane Vmaskmov)))
+    ∷ p66 (without_w (stored_by_signs 0x2E 32 (Lane Vmaskmov))) ∷ p66 (without_w (stored_by_signs 0x2F 64 (Lane Vmaskmov))) ∷ []
+    -- 37 to 3F: those that are vector instructions of the legacy class, too
+    ++ simd_37 Avx
     -- 66 45, 46, 47: VPSRLVD and with W VPSRLVQ; VPSRAVD without W; VPSLLVD and with W VPSLLVQ Vx,Hx,Wx
     ++ by_w (p66 (vector Avx 0x45 VxHxWx 32 (Lane Vpsrlv)))
     ++ without_w (p66 (vector Avx 0x46 VxHxWx 32 (Lane Vpsrav))) ∷ []
     ++ by_w (p66 (vector Avx 0x47 VxHxWx 32 (Lane Vpsllv)))
+    -- 66 8C, memory only: VPMASKMOVD and with W VPMASKMOVQ Vx,Hx,Mx; 66 8E: Mx,Hx,Vx; the mask is in Hx
+    ++ by_w (p66 (loaded_by_signs 0x8C 32 (Lane Vpmaskmov))) ++ by_w (p66 (stored_by_signs 0x8E 32 (Lane Vpmaskmov)))
     -- NP F2: ANDN Gy,By,Ey
     ++ by_w (np (vex 0xF2 GyByEy (Bit Andn)))
     -- NP F3 /1, /2, /3: group 17, BLSR, BLSMSK, BLSI By,Ey

@@ -24,7 +24,7 @@ use Rattle.vec_step.specs.declared.kinds.Source.TheVariants.{Register as FromReg
 use Rattle.vec_step.specs.declared.kinds.Target.{Target}
 use Rattle.vec_step.specs.declared.kinds.Target.TheVariants.{Register as ToRegister, Memory as ToMemory, Mask as ToMask, General as ToGeneral, Flags as ToFlags, Nowhere}
 use Rattle.vec_step.specs.Fits.{PlanFits, SourceFits, TargetFits}
-use Rattle.vec_step.specs.Plan.{gives_flags, mask_in, has_two_sources, spots_of, memory_source, source_or, source_in, first_in, target_or, target_in, vector_plan, source_accesses, target_accesses, vector_access}
+use Rattle.vec_step.specs.Plan.{gives_flags, mask_in, has_two_sources, spots_of, vector_in, general_in, source_at, memory_source, source_or, source_in, first_in, memory_span, target_or, target_in, vector_plan, source_accesses, target_accesses, vector_access}
 
 -- ---- where the operands are
 -- an operand in memory is at this address
@@ -56,36 +56,56 @@ flags_or-at addr true target is = tt
 flags_or-at addr false target is = is
 
 -- where the memory that an instruction names is at this address, if it names memory
-module _ (addr : ℕ) (row : Row) (fields : Fields) (f : Form) (mask : ℕ) where
-  source_or-at : (register : Source) (memory : Option ℕ) → ((a : ℕ) → memory ≡ Some a → a ≡ addr) → SourceAt addr register
-      → SourceAt addr (source_or register row fields f mask memory)
-  source_or-at register None is other = other
-  source_or-at register (Some a) is other =
-      subst (λ (x : ℕ). SourceAt addr (memory_source row fields f mask x)) (sym (is a refl)) (memory-at addr _ fields.bc row.whole _ _ refl refl)
+abbrev MemoryAt : ℕ → Option Source → Type 0
+MemoryAt addr None = ⊤
+MemoryAt addr (Some source) = SourceAt addr source
 
-  source_in-at : (spot : Spot) (p : Places) → ((a : ℕ) → p.memory ≡ Some a → a ≡ addr) → SourceAt addr (source_in spot row fields f mask p)
-  unfolding source_in
-  source_in-at VectorRm p is = source_or-at _ p.memory is tt
-  source_in-at Rm p is = source_or-at _ p.memory is tt
-  source_in-at InMemory p is = source_or-at Nothing p.memory is tt
-  source_in-at spot p is = tt
+source_or-at : (addr : ℕ) (register : Source) (memory : Option Source) → SourceAt addr register → MemoryAt addr memory
+    → SourceAt addr (source_or register memory)
+source_or-at addr register None is there = is
+source_or-at addr register (Some source) is there = there
 
-  first_in-at : (two : Bool) (spot : Spot) (p : Places) → ((a : ℕ) → p.memory ≡ Some a → a ≡ addr)
-      → SourceAt addr (first_in two spot row fields f mask p)
-  first_in-at true spot p is = source_in-at spot p is
-  first_in-at false spot p is = tt
+source_in-at : (addr : ℕ) (spot : Spot) (f : Form) (memory : Option Source) (p : Places) → MemoryAt addr memory
+    → SourceAt addr (source_in spot f memory p)
+unfolding source_in
+source_in-at addr VectorRm f memory p there = source_or-at addr (FromRegister (vector_in VectorRm p)) memory tt there
+source_in-at addr Rm f memory p there = source_or-at addr (FromGeneral (general_in Rm p)) memory tt there
+source_in-at addr InMemory f memory p there = source_or-at addr Nothing memory tt there
+source_in-at addr spot f memory p there = tt
 
-  target_or-at : (register : Target) (memory : Option ℕ) → ((a : ℕ) → memory ≡ Some a → a ≡ addr) → TargetAt addr register
-      → TargetAt addr (target_or register row f mask memory)
-  target_or-at register None is other = other
-  target_or-at register (Some a) is other = is a refl
+first_in-at : (addr : ℕ) (two : Bool) (spot : Spot) (f : Form) (memory : Option Source) (p : Places) → MemoryAt addr memory
+    → SourceAt addr (first_in two spot f memory p)
+first_in-at addr true spot f memory p there = source_in-at addr spot f memory p there
+first_in-at addr false spot f memory p there = tt
 
-  target_in-at : (spot : Spot) (p : Places) → ((a : ℕ) → p.memory ≡ Some a → a ≡ addr) → TargetAt addr (target_in spot row f mask p)
-  unfolding target_in
-  target_in-at VectorRm p is = target_or-at _ p.memory is tt
-  target_in-at Rm p is = target_or-at _ p.memory is tt
-  target_in-at InMemory p is = target_or-at Nowhere p.memory is tt
-  target_in-at spot p is = tt
+memory_source-at : (addr : ℕ) (row : Row) (fields : Fields) (f : Form) (mask : ℕ) (memory : Option ℕ)
+    → ((a : ℕ) → memory ≡ Some a → a ≡ addr) → MemoryAt addr (memory_source row fields f mask memory)
+memory_source-at addr row fields f mask None is = tt
+memory_source-at addr row fields f mask (Some a) is =
+    subst (λ (x : ℕ). SourceAt addr (source_at row fields f mask x)) (sym (is a refl)) (memory-at addr _ fields.bc row.whole _ _ refl refl)
+
+-- the same of where the result goes
+abbrev LanesAt : ℕ → Option Span → Type 0
+LanesAt addr None = ⊤
+LanesAt addr (Some m) = m.addr ≡ addr
+
+memory_span-at : (addr : ℕ) (row : Row) (fields : Fields) (f : Form) (mask : ℕ) (memory : Option ℕ)
+    → ((a : ℕ) → memory ≡ Some a → a ≡ addr) → LanesAt addr (memory_span row fields f mask memory)
+memory_span-at addr row fields f mask None is = tt
+memory_span-at addr row fields f mask (Some a) is = is a refl
+
+target_or-at : (addr : ℕ) (register : Target) (memory : Option Span) → TargetAt addr register → LanesAt addr memory
+    → TargetAt addr (target_or register memory)
+target_or-at addr register None is there = is
+target_or-at addr register (Some m) is there = there
+
+target_in-at : (addr : ℕ) (spot : Spot) (memory : Option Span) (p : Places) → LanesAt addr memory
+    → TargetAt addr (target_in spot memory p)
+unfolding target_in
+target_in-at addr VectorRm memory p there = target_or-at addr (ToRegister (vector_in VectorRm p)) memory tt there
+target_in-at addr Rm memory p there = target_or-at addr (ToGeneral (general_in Rm p)) memory tt there
+target_in-at addr InMemory memory p there = target_or-at addr Nowhere memory tt there
+target_in-at addr spot memory p there = tt
 
 -- ---- accesses from an address on
 -- each byte of an access is one of the 64 from this address on, modulo 2^64
@@ -143,9 +163,13 @@ vector-near row fields p next e addr below is fits =
     let mask = mask_in row fields f p e in
     let layout = layout_of row.operands in
     let spots = spots_of layout in
+    let memory = memory_source row fields f mask p.memory in
+    let there : MemoryAt addr memory = memory_source-at addr row fields f mask p.memory is in
+    let lanes = memory_span row fields f mask p.memory in
+    let lanes_there : LanesAt addr lanes = memory_span-at addr row fields f mask p.memory is in
     All-append (IsNear addr) _ _
     (All-append (IsNear addr) _ _
-    (source_near _ addr below fits.first (first_in-at addr row fields f mask (has_two_sources layout) spots.first p is))
-    (source_near _ addr below fits.second (source_in-at addr row fields f mask spots.second p is)))
+    (source_near _ addr below fits.first (first_in-at addr (has_two_sources layout) spots.first f memory p there))
+    (source_near _ addr below fits.second (source_in-at addr spots.second f memory p there)))
     (target_near _ addr below fits.target
-    (flags_or-at addr (gives_flags row.op) _ (target_in-at addr row fields f mask spots.destination p is)))
+    (flags_or-at addr (gives_flags row.op) _ (target_in-at addr spots.destination lanes p lanes_there)))

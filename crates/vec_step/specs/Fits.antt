@@ -1,5 +1,5 @@
 -- What holds of every vector instruction that is found.
-use Rattle.std.specs.Prelude.{◌*◌, ◌<◌, ◌≤◌, IsTrue, ⊤}
+use Rattle.std.specs.Prelude.{◌*◌, ◌<◌, ◌≤◌, IsTrue, ⊤, Option, Some, None}
 use Rattle.gpr_flags.specs.Registers.{is_size}
 use Rattle.vec_units.specs.Form.{FormFits}
 use Rattle.vec_step.specs.declared.kinds.Span.{Span}
@@ -13,6 +13,11 @@ pub record SpanFits (m : Span) : Type 0 where
   pub width : IsTrue (is_size m.width)
   pub most : m.lanes * m.width ≤ 64
 
+-- lanes in memory, if there are some
+abbrev pub LanesFit : Option Span → Type 0
+LanesFit None = ⊤
+LanesFit (Some m) = SpanFits m
+
 abbrev pub SourceFits : Source → Type 0
 SourceFits (FromRegister n) = n < 32
 SourceFits (FromGeneral n) = n < 16
@@ -21,6 +26,11 @@ SourceFits (FromMemory m) = SpanFits m
 SourceFits (Broadcast m) = SpanFits m
 SourceFits (Whole addr len) = len ≤ 64
 SourceFits Nothing = ⊤
+
+-- the source in memory, if there is one
+abbrev pub MemoryFits : Option Source → Type 0
+MemoryFits None = ⊤
+MemoryFits (Some source) = SourceFits source
 
 abbrev pub TargetFits : Target → Type 0
 TargetFits (ToRegister n) = n < 32

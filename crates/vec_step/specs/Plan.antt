@@ -92,27 +92,31 @@ abbrev pub opmask_in : Spot → Places → ℕ
 opmask_in spot p = number_in spot p % 8
 
 -- ---- lanes in memory
--- how many of so many bytes a row's operand has, of vectors of `len` bytes (SDM volume 2, tables 2-34 and 2-35); legacy and VEX rows
--- without a tuple have whole vectors
-unfoldable pub tuple_lanes : Tuple → (width len : ℕ) → ℕ
-tuple_lanes NoTuple width len = len / width
-tuple_lanes Full width len = len / width
-tuple_lanes FullMem width len = len / width
-tuple_lanes Half width len = len / 2 / width
-tuple_lanes HalfMem width len = len / 2 / width
-tuple_lanes QuarterMem width len = len / 4 / width
-tuple_lanes EighthMem width len = len / 8 / width
-tuple_lanes Mem128 width len = 16 / width
-tuple_lanes T1S width len = 1
-tuple_lanes T2 width len = 2
-tuple_lanes T4 width len = 4
-tuple_lanes T8 width len = 8
+-- the bytes of an element, by W (SDM volume 2, 2.7.5)
+abbrev pub element_bytes : Fields → ℕ
+element_bytes fields = if fields.w then 8 else 4
 
-abbrev pub lanes_in : Row → Form → ℕ
-lanes_in row f = tuple_lanes row.tuple f.width f.len
+-- how many of so many bytes a row's operand has, of vectors of `len` bytes and, in tuples of elements, of `element` bytes each (SDM
+-- volume 2, tables 2-34 and 2-35); legacy and VEX rows without a tuple have whole vectors
+unfoldable pub tuple_lanes : Tuple → (element width len : ℕ) → ℕ
+tuple_lanes NoTuple element width len = len / width
+tuple_lanes Full element width len = len / width
+tuple_lanes FullMem element width len = len / width
+tuple_lanes Half element width len = len / 2 / width
+tuple_lanes HalfMem element width len = len / 2 / width
+tuple_lanes QuarterMem element width len = len / 4 / width
+tuple_lanes EighthMem element width len = len / 8 / width
+tuple_lanes Mem128 element width len = 16 / width
+tuple_lanes T1S element width len = 1
+tuple_lanes T2 element width len = 2 * element / width
+tuple_lanes T4 element width len = 4 * element / width
+tuple_lanes T8 element width len = 8 * element / width
 
-abbrev pub span_of : Row → Form → (mask addr : ℕ) → Span
-span_of row f mask addr = record { addr = addr; width = f.width; lanes = lanes_in row f; mask = mask }
+abbrev pub lanes_in : Row → Fields → Form → ℕ
+lanes_in row fields f = tuple_lanes row.tuple (element_bytes fields) f.width f.len
+
+abbrev pub span_of : Row → Fields → Form → (mask addr : ℕ) → Span
+span_of row fields f mask addr = record { addr = addr; width = f.width; lanes = lanes_in row fields f; mask = mask }
 
 -- ---- the mask
 -- rows whose mask is the signs of the register in vvvv (SDM volume 2, VMASKMOV and VPMASKMOV)
@@ -135,82 +139,92 @@ mask_in row fields f p e =
     if is_by_signs row.mask then sign_mask f (zmm_in e (vector_in VectorVvvv p)) else opmask_or_all fields e.k
 
 -- ---- the sources
--- one element of memory for all lanes, of 4 bytes, or 8 with W (SDM volume 2, 2.7.5); it is accessed where a lane is masked in, and
--- always in a row that reads its operand whole
+-- one element of memory for all lanes (SDM volume 2, 2.7.5); it is accessed where a lane is masked in, and always in a row that reads
+-- its operand whole
 abbrev pub element_of : Row → Fields → Form → (mask addr : ℕ) → Span
 element_of row fields f mask addr = record {
   addr = addr;
-  width = if fields.w then 8 else 4;
+  width = element_bytes fields;
   lanes = 1;
   mask = if row.whole || not (mask % 2 ^ f.lanes == 0) then 1 else 0;
 }
 
 -- a row that reads its operand whole makes one access of it
-abbrev pub memory_source : Row → Fields → Form → (mask addr : ℕ) → Source
-memory_source row fields f mask addr =
+abbrev pub source_at : Row → Fields → Form → (mask addr : ℕ) → Source
+source_at row fields f mask addr =
     if fields.bc then Broadcast (element_of row fields f mask addr)
-    else if row.whole then Whole addr (lanes_in row f * f.width)
-    else FromMemory (span_of row f mask addr)
+    else if row.whole then Whole addr (lanes_in row fields f * f.width)
+    else FromMemory (span_of row fields f mask addr)
 
-abbrev pub source_or : Source → Row → Fields → Form → (mask : ℕ) → Option ℕ → Source
-source_or register row fields f mask None = register
-source_or register row fields f mask (Some addr) = memory_source row fields f mask addr
+-- the source in memory, if ModRM names memory
+abbrev pub memory_source : Row → Fields → Form → (mask : ℕ) → Option ℕ → Option Source
+memory_source row fields f mask None = None
+memory_source row fields f mask (Some addr) = Some (source_at row fields f mask addr)
 
-unfoldable pub source_in : Spot → Row → Fields → Form → (mask : ℕ) → Places → Source
-source_in VectorReg row fields f mask p = FromRegister (vector_in VectorReg p)
-source_in VectorVvvv row fields f mask p = FromRegister (vector_in VectorVvvv p)
-source_in VectorRm row fields f mask p = source_or (FromRegister (vector_in VectorRm p)) row fields f mask p.memory
-source_in Rm row fields f mask p = source_or (FromGeneral (general_in Rm p)) row fields f mask p.memory
-source_in InMemory row fields f mask p = source_or Nothing row fields f mask p.memory
-source_in Reg row fields f mask p = FromGeneral (general_in Reg p)
-source_in Immediate row fields f mask p = Count f.imm
-source_in Absent row fields f mask p = Nothing
-source_in Vvvv row fields f mask p = Nothing
-source_in OpcodeReg row fields f mask p = Nothing
-source_in Rax row fields f mask p = Nothing
-source_in Cl row fields f mask p = Nothing
-source_in VectorMemory row fields f mask p = Nothing
-source_in Offset row fields f mask p = Nothing
-source_in Relative row fields f mask p = Nothing
-source_in One row fields f mask p = Nothing
-source_in VectorImmediate row fields f mask p = Nothing
-source_in Xmm0 row fields f mask p = Nothing
-source_in OpmaskReg row fields f mask p = Nothing
-source_in OpmaskRm row fields f mask p = Nothing
-source_in OpmaskVvvv row fields f mask p = Nothing
+abbrev pub source_or : Source → (memory : Option Source) → Source
+source_or register None = register
+source_or register (Some memory) = memory
+
+unfoldable pub source_in : Spot → Form → (memory : Option Source) → Places → Source
+source_in VectorReg f memory p = FromRegister (vector_in VectorReg p)
+source_in VectorVvvv f memory p = FromRegister (vector_in VectorVvvv p)
+source_in VectorRm f memory p = source_or (FromRegister (vector_in VectorRm p)) memory
+source_in Rm f memory p = source_or (FromGeneral (general_in Rm p)) memory
+source_in InMemory f memory p = source_or Nothing memory
+source_in Reg f memory p = FromGeneral (general_in Reg p)
+source_in Immediate f memory p = Count f.imm
+source_in Absent f memory p = Nothing
+source_in Vvvv f memory p = Nothing
+source_in OpcodeReg f memory p = Nothing
+source_in Rax f memory p = Nothing
+source_in Cl f memory p = Nothing
+source_in VectorMemory f memory p = Nothing
+source_in Offset f memory p = Nothing
+source_in Relative f memory p = Nothing
+source_in One f memory p = Nothing
+source_in VectorImmediate f memory p = Nothing
+source_in Xmm0 f memory p = Nothing
+source_in OpmaskReg f memory p = Nothing
+source_in OpmaskRm f memory p = Nothing
+source_in OpmaskVvvv f memory p = Nothing
 
 -- the first source; where the list names only one other it is the destination's register, and no memory is read for it
-abbrev pub first_in : (two : Bool) → Spot → Row → Fields → Form → (mask : ℕ) → Places → Source
-first_in true spot row fields f mask p = source_in spot row fields f mask p
-first_in false spot row fields f mask p = FromRegister (vector_in spot p)
+abbrev pub first_in : (two : Bool) → Spot → Form → (memory : Option Source) → Places → Source
+first_in true spot f memory p = source_in spot f memory p
+first_in false spot f memory p = FromRegister (vector_in spot p)
 
 -- ---- the destination
-abbrev pub target_or : Target → Row → Form → (mask : ℕ) → Option ℕ → Target
-target_or register row f mask None = register
-target_or register row f mask (Some addr) = ToMemory (span_of row f mask addr)
+-- the lanes in memory, if ModRM names memory
+abbrev pub memory_span : Row → Fields → Form → (mask : ℕ) → Option ℕ → Option Span
+memory_span row fields f mask None = None
+memory_span row fields f mask (Some addr) = Some (span_of row fields f mask addr)
 
-unfoldable pub target_in : Spot → Row → Form → (mask : ℕ) → Places → Target
-target_in VectorReg row f mask p = ToRegister (vector_in VectorReg p)
-target_in VectorVvvv row f mask p = ToRegister (vector_in VectorVvvv p)
-target_in VectorRm row f mask p = target_or (ToRegister (vector_in VectorRm p)) row f mask p.memory
-target_in Rm row f mask p = target_or (ToGeneral (general_in Rm p)) row f mask p.memory
-target_in InMemory row f mask p = target_or Nowhere row f mask p.memory
-target_in Reg row f mask p = ToGeneral (general_in Reg p)
-target_in OpmaskReg row f mask p = ToMask (opmask_in OpmaskReg p)
-target_in Absent row f mask p = Nowhere
-target_in Vvvv row f mask p = Nowhere
-target_in OpcodeReg row f mask p = Nowhere
-target_in Rax row f mask p = Nowhere
-target_in Cl row f mask p = Nowhere
-target_in VectorMemory row f mask p = Nowhere
-target_in Offset row f mask p = Nowhere
-target_in Immediate row f mask p = Nowhere
-target_in Relative row f mask p = Nowhere
-target_in One row f mask p = Nowhere
-target_in VectorImmediate row f mask p = Nowhere
-target_in Xmm0 row f mask p = Nowhere
-target_in OpmaskRm row f mask p = Nowhere
-target_in OpmaskVvvv row f mask p = Nowhere
+abbrev pub target_or : Target → (memory : Option Span) → Target
+target_or register None = register
+target_or register (Some m) = ToMemory m
+
+unfoldable pub target_in : Spot → (memory : Option Span) → Places → Target
+target_in VectorReg memory p = ToRegister (vector_in VectorReg p)
+target_in VectorVvvv memory p = ToRegister (vector_in VectorVvvv p)
+target_in VectorRm memory p = target_or (ToRegister (vector_in VectorRm p)) memory
+target_in Rm memory p = target_or (ToGeneral (general_in Rm p)) memory
+target_in InMemory memory p = target_or Nowhere memory
+target_in Reg memory p = ToGeneral (general_in Reg p)
+target_in OpmaskReg memory p = ToMask (opmask_in OpmaskReg p)
+target_in Absent memory p = Nowhere
+target_in Vvvv memory p = Nowhere
+target_in OpcodeReg memory p = Nowhere
+target_in Rax memory p = Nowhere
+target_in Cl memory p = Nowhere
+target_in VectorMemory memory p = Nowhere
+target_in Offset memory p = Nowhere
+target_in Immediate memory p = Nowhere
+target_in Relative memory p = Nowhere
+target_in One memory p = Nowhere
+target_in VectorImmediate memory p = Nowhere
+target_in Xmm0 memory p = Nowhere
+target_in OpmaskRm memory p = Nowhere
+target_in OpmaskVvvv memory p = Nowhere
 
 -- PTEST gives flags; its first operand is only read
 unfoldable pub gives_flags : Op → Bool
@@ -229,20 +243,21 @@ gives_flags (OnMasks op) = false
 gives_flags (Gather op) = false
 gives_flags (Xsave op) = false
 
-abbrev pub target_at : Spot → Row → Form → (mask : ℕ) → Places → Target
-target_at spot row f mask p = if gives_flags row.op then ToFlags else target_in spot row f mask p
+abbrev pub target_at : Op → Spot → (memory : Option Span) → Places → Target
+target_at op spot memory p = if gives_flags op then ToFlags else target_in spot memory p
 
 -- ---- the instruction
 abbrev pub plan_by : Layout → Form → Row → Fields → (mask : ℕ) → Places → (next : ℕ) → VectorPlan
 plan_by layout f row fields mask p next =
     let spots = spots_of layout in
+    let memory = memory_source row fields f mask p.memory in
     record {
       form = f;
       mask = mask;
       old = vector_in spots.destination p;
-      first = first_in (has_two_sources layout) spots.first row fields f mask p;
-      second = source_in spots.second row fields f mask p;
-      target = target_at spots.destination row f mask p;
+      first = first_in (has_two_sources layout) spots.first f memory p;
+      second = source_in spots.second f memory p;
+      target = target_at row.op spots.destination (memory_span row fields f mask p.memory) p;
       next = next;
     }
 

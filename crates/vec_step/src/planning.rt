@@ -1,8 +1,9 @@
 //! A vector instruction, by its row and fields.
-ghost use Rattle.std.specs.Prelude.{◌≡◌, ◌*◌, ◌^◌, ◌%◌, ◌==◌, ◌≤◌};
+ghost use Rattle.std.specs.Prelude.{◌≡◌, ◌*◌, ◌^◌, ◌%◌, ◌==◌, ◌≤◌, IsTrue};
+ghost use Rattle.gpr_flags.specs.Registers.{is_size};
 ghost use Rattle.vec_units.specs.Form.{IsVectorRow, FormFits};
-ghost use Rattle.vec_step.specs.Plan.{lanes_in as lanes_in_row, span_of, is_by_signs as is_by_signs_kind, opmask_or_all as opmask_or_all_of, mask_in as mask_in_state, element_of, memory_source as memory_source_of, source_or as source_or_by, source_in, first_in, target_or as target_or_by, target_in, target_at, gives_flags as gives_flags_by, vector_plan};
-ghost use Rattle.vec_step.specs.Fits.{PlanFits, SpanFits, SourceFits, TargetFits};
+ghost use Rattle.vec_step.specs.Plan.{element_bytes as element_bytes_of, lanes_in as lanes_in_row, span_of, is_by_signs as is_by_signs_kind, opmask_or_all as opmask_or_all_of, mask_in as mask_in_state, element_of, source_at as source_at_address, memory_source as memory_source_of, source_or as source_or_by, source_in, first_in, memory_span as memory_span_of, target_or as target_or_by, target_in, target_at, gives_flags as gives_flags_by, vector_plan};
+ghost use Rattle.vec_step.specs.Fits.{PlanFits, SpanFits, LanesFit, SourceFits, MemoryFits, TargetFits};
 
 use crate::kinds::{Places, Source, Span, Target, VectorPlan};
 use crate::places::{general, has_two_sources, opmask, spots, vector};
@@ -11,13 +12,23 @@ use row_table::{Fields, MaskKind, Op, Row, Spot, Tuple, VectorOp, layout};
 use vec_file::VecFile;
 use vec_units::{Form, form_for, signs};
 
+/// The bytes of an element.
+fn element_bytes(fields: &Fields) -> u8
+    ensures value { result ≡ element_bytes_of fields.now }
+    ensures size { IsTrue (is_size result) }
+    ensures most { result ≤ 8 }
+{
+    if fields.w { 8 } else { 4 }
+}
+
 /// How many lanes a row has in memory, by its tuple.
 #[tactic(auto, unfolding(crate::specs::Plan::tuple_lanes))]
-fn lanes_in(row: &Row, f: &Form) -> u8
+fn lanes_in(row: &Row, fields: &Fields, f: &Form) -> u8
     requires { FormFits f.now }
-    ensures value { result ≡ lanes_in_row row.now f.now }
+    ensures value { result ≡ lanes_in_row row.now fields.now f.now }
     ensures most { result * f.now.width ≤ 64 }
 {
+    let element = element_bytes(fields);
     match row.tuple {
         Tuple::NoTuple | Tuple::Full | Tuple::FullMem => f.len / f.width,
         Tuple::Half | Tuple::HalfMem => f.len / 2 / f.width,
@@ -25,22 +36,22 @@ fn lanes_in(row: &Row, f: &Form) -> u8
         Tuple::EighthMem => f.len / 8 / f.width,
         Tuple::Mem128 => 16 / f.width,
         Tuple::T1S => 1,
-        Tuple::T2 => 2,
-        Tuple::T4 => 4,
-        Tuple::T8 => 8,
+        Tuple::T2 => 2 * element / f.width,
+        Tuple::T4 => 4 * element / f.width,
+        Tuple::T8 => 8 * element / f.width,
     }
 }
 
 /// The lanes in memory at an address.
-fn span(row: &Row, f: &Form, mask: u64, addr: u64) -> Span
+fn span(row: &Row, fields: &Fields, f: &Form, mask: u64, addr: u64) -> Span
     requires { FormFits f.now }
-    ensures is { result ≡ span_of row.now f.now mask addr }
+    ensures is { result ≡ span_of row.now fields.now f.now mask addr }
     ensures fits { SpanFits result }
 {
     Span {
         addr,
         width: f.width,
-        lanes: lanes_in(row, f),
+        lanes: lanes_in(row, fields, f),
         mask,
     }
 }
@@ -99,77 +110,70 @@ fn element(row: &Row, fields: &Fields, f: &Form, mask: u64, addr: u64) -> Span
 {
     Span {
         addr,
-        width: if fields.w { 8 } else { 4 },
+        width: element_bytes(fields),
         lanes: 1,
         mask: u64::from(row.whole || !is_empty(f, mask)),
     }
 }
 
-/// A source in memory.
-fn memory_source(row: &Row, fields: &Fields, f: &Form, mask: u64, addr: u64) -> Source
+/// A source at an address.
+fn source_at(row: &Row, fields: &Fields, f: &Form, mask: u64, addr: u64) -> Source
     requires { FormFits f.now }
-    ensures is { result ≡ memory_source_of row.now fields.now f.now mask addr }
+    ensures is { result ≡ source_at_address row.now fields.now f.now mask addr }
     ensures fits { SourceFits result }
 {
     if fields.bc {
         Source::Broadcast(element(row, fields, f, mask, addr))
     } else if row.whole {
-        Source::Whole(addr, lanes_in(row, f) * f.width)
+        Source::Whole(addr, lanes_in(row, fields, f) * f.width)
     } else {
-        Source::Memory(span(row, f, mask, addr))
+        Source::Memory(span(row, fields, f, mask, addr))
     }
 }
 
-/// A source in memory, or another where ModRM doesn't name memory.
-fn source_or(
-    register: Source,
+/// The source in memory, if ModRM names memory.
+fn memory_source(
     row: &Row,
     fields: &Fields,
     f: &Form,
     mask: u64,
     memory: Option<u64>,
-) -> Source
-    requires form { FormFits f.now }
+) -> Option<Source>
+    requires { FormFits f.now }
+    ensures is { result ≡ memory_source_of row.now fields.now f.now mask memory }
+    ensures fits { MemoryFits result }
+{
+    match memory {
+        None => None,
+        Some(addr) => Some(source_at(row, fields, f, mask, addr)),
+    }
+}
+
+/// The source in memory, or another where ModRM doesn't name memory.
+fn source_or(register: Source, memory: Option<Source>) -> Source
     requires register { SourceFits register }
-    ensures is { result ≡ source_or_by register row.now fields.now f.now mask memory }
+    requires memory { MemoryFits memory }
+    ensures is { result ≡ source_or_by register memory }
     ensures fits { SourceFits result }
 {
     match memory {
         None => register,
-        Some(addr) => memory_source(row, fields, f, mask, addr),
+        Some(source) => source,
     }
 }
 
 /// The source in a place.
 #[tactic(auto, unfolding(crate::specs::Plan::source_in))]
-fn source(spot: Spot, row: &Row, fields: &Fields, f: &Form, mask: u64, p: &Places) -> Source
-    requires { FormFits f.now }
-    ensures is { result ≡ source_in spot row.now fields.now f.now mask p.now }
+fn source(spot: Spot, f: &Form, memory: Option<Source>, p: &Places) -> Source
+    requires { MemoryFits memory }
+    ensures is { result ≡ source_in spot f.now memory p.now }
     ensures fits { SourceFits result }
 {
     match spot {
         Spot::VectorReg | Spot::VectorVvvv => Source::Register(vector(spot, p)),
-        Spot::VectorRm => {
-            source_or(
-                Source::Register(vector(spot, p)),
-                row,
-                fields,
-                f,
-                mask,
-                p.memory,
-            )
-        }
-        Spot::Rm => {
-            source_or(
-                Source::General(general(spot, p)),
-                row,
-                fields,
-                f,
-                mask,
-                p.memory,
-            )
-        }
-        Spot::Memory => source_or(Source::Nothing, row, fields, f, mask, p.memory),
+        Spot::VectorRm => source_or(Source::Register(vector(spot, p)), memory),
+        Spot::Rm => source_or(Source::General(general(spot, p)), memory),
+        Spot::Memory => source_or(Source::Nothing, memory),
         Spot::Reg => Source::General(general(spot, p)),
         Spot::Immediate => Source::Count(f.imm),
         Spot::Absent
@@ -190,51 +194,55 @@ fn source(spot: Spot, row: &Row, fields: &Fields, f: &Form, mask: u64, p: &Place
 }
 
 /// The first source.
-fn first(
-    two: bool,
-    spot: Spot,
-    row: &Row,
-    fields: &Fields,
-    f: &Form,
-    mask: u64,
-    p: &Places,
-) -> Source
-    requires { FormFits f.now }
-    ensures is { result ≡ first_in two spot row.now fields.now f.now mask p.now }
+fn first(two: bool, spot: Spot, f: &Form, memory: Option<Source>, p: &Places) -> Source
+    requires { MemoryFits memory }
+    ensures is { result ≡ first_in two spot f.now memory p.now }
     ensures fits { SourceFits result }
 {
     if two {
-        source(spot, row, fields, f, mask, p)
+        source(spot, f, memory, p)
     } else {
         Source::Register(vector(spot, p))
     }
 }
 
-/// A destination in memory, or another where ModRM doesn't name memory.
-fn target_or(register: Target, row: &Row, f: &Form, mask: u64, memory: Option<u64>) -> Target
-    requires form { FormFits f.now }
+/// The lanes in memory, if ModRM names memory.
+fn memory_span(row: &Row, fields: &Fields, f: &Form, mask: u64, memory: Option<u64>) -> Option<Span>
+    requires { FormFits f.now }
+    ensures is { result ≡ memory_span_of row.now fields.now f.now mask memory }
+    ensures fits { LanesFit result }
+{
+    match memory {
+        None => None,
+        Some(addr) => Some(span(row, fields, f, mask, addr)),
+    }
+}
+
+/// The destination in memory, or another where ModRM doesn't name memory.
+fn target_or(register: Target, memory: Option<Span>) -> Target
     requires register { TargetFits register }
-    ensures is { result ≡ target_or_by register row.now f.now mask memory }
+    requires memory { LanesFit memory }
+    ensures is { result ≡ target_or_by register memory }
     ensures fits { TargetFits result }
 {
     match memory {
         None => register,
-        Some(addr) => Target::Memory(span(row, f, mask, addr)),
+        Some(m) => Target::Memory(m),
     }
 }
 
 /// Where the row's destination is.
 #[tactic(auto, unfolding(crate::specs::Plan::target_in))]
-fn destination(spot: Spot, row: &Row, f: &Form, mask: u64, p: &Places) -> Target
-    requires { FormFits f.now }
-    ensures is { result ≡ target_in spot row.now f.now mask p.now }
+fn destination(spot: Spot, memory: Option<Span>, p: &Places) -> Target
+    requires { LanesFit memory }
+    ensures is { result ≡ target_in spot memory p.now }
     ensures fits { TargetFits result }
 {
     match spot {
         Spot::VectorReg | Spot::VectorVvvv => Target::Register(vector(spot, p)),
-        Spot::VectorRm => target_or(Target::Register(vector(spot, p)), row, f, mask, p.memory),
-        Spot::Rm => target_or(Target::General(general(spot, p)), row, f, mask, p.memory),
-        Spot::Memory => target_or(Target::Nowhere, row, f, mask, p.memory),
+        Spot::VectorRm => target_or(Target::Register(vector(spot, p)), memory),
+        Spot::Rm => target_or(Target::General(general(spot, p)), memory),
+        Spot::Memory => target_or(Target::Nowhere, memory),
         Spot::Reg => Target::General(general(spot, p)),
         Spot::OpmaskReg => Target::Mask(opmask(spot, p)),
         Spot::Absent
@@ -277,15 +285,15 @@ fn gives_flags(op: Op) -> bool
 }
 
 /// Where the result goes.
-fn target(spot: Spot, row: &Row, f: &Form, mask: u64, p: &Places) -> Target
-    requires { FormFits f.now }
-    ensures is { result ≡ target_at spot row.now f.now mask p.now }
+fn target(op: Op, spot: Spot, memory: Option<Span>, p: &Places) -> Target
+    requires { LanesFit memory }
+    ensures is { result ≡ target_at op spot memory p.now }
     ensures fits { TargetFits result }
 {
-    if gives_flags(row.op) {
+    if gives_flags(op) {
         Target::Flags
     } else {
-        destination(spot, row, f, mask, p)
+        destination(spot, memory, p)
     }
 }
 
@@ -301,13 +309,15 @@ pub fn plan(row: &Row, fields: &Fields, p: &Places, next: u64, vec: &VecFile) ->
     let layout = layout(row.operands);
     let two = has_two_sources(&layout);
     let spots = spots(&layout);
+    let memory = memory_source(row, fields, &form, mask, p.memory);
+    let lanes = memory_span(row, fields, &form, mask, p.memory);
     VectorPlan {
         form,
         mask,
         old: vector(spots.destination, p),
-        first: first(two, spots.first, row, fields, &form, mask, p),
-        second: source(spots.second, row, fields, &form, mask, p),
-        target: target(spots.destination, row, &form, mask, p),
+        first: first(two, spots.first, &form, memory, p),
+        second: source(spots.second, &form, memory, p),
+        target: target(row.op, spots.destination, lanes, p),
         next,
     }
 }

@@ -420,6 +420,39 @@ fn instructions_of_evex_are_seen_as_the_assembler_writes_them(rt: HostRuntime) {
     for (bytes, want) in evex::sum_bytes() {
         assert_eq!(rt; vex_told_of(bytes), Some(*want), "at {bytes:?}");
     }
+    for (bytes, want) in evex::arithmetic_bytes() {
+        assert_eq!(rt; vex_told_of(bytes), Some(*want), "at {bytes:?}");
+    }
+    for (bytes, want) in evex::comparison_bytes() {
+        assert_eq!(rt; vex_told_of(bytes), Some(*want), "at {bytes:?}");
+    }
+    for (bytes, want) in evex::shift_bytes() {
+        assert_eq!(rt; vex_told_of(bytes), Some(*want), "at {bytes:?}");
+    }
+    for (bytes, want) in evex::move_bytes() {
+        assert_eq!(rt; vex_told_of(bytes), Some(*want), "at {bytes:?}");
+    }
+}
+
+#[test]
+fn displacements_of_evex_go_by_tuple_and_length(rt: HostRuntime) {
+    for (bytes, want) in evex::displacement_bytes() {
+        assert_eq!(rt; vex_told_of(bytes), Some(*want), "at {bytes:?}");
+    }
+}
+
+#[test]
+fn bits_of_evex_without_a_use_are_not_looked_at(rt: HostRuntime) {
+    for (bytes, want) in evex::bytes_without_a_use() {
+        assert_eq!(rt; vex_told_of(bytes), Some(*want), "at {bytes:?}");
+    }
+}
+
+#[test]
+fn what_no_row_of_evex_takes_is_refused(rt: HostRuntime) {
+    for bytes in evex::rows_refused() {
+        assert_eq!(rt; told_of(bytes), BAD, "at {bytes:?}");
+    }
 }
 
 #[test]

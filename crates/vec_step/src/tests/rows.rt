@@ -157,7 +157,7 @@ pub(crate) static SHIFTS: [Case; 34] = [
 ];
 
 #[rattlefmt::skip]
-pub(crate) static MOVES: [Case; 54] = [
+pub(crate) static MOVES: [Case; 55] = [
     (Class::Legacy, LaneOp::Movdqu, Operands::VxWx, 32, Tuple::NoTuple, 0, 0, Masked::All, Place::Memory, false, [0xAAE49C9CB8C2330D, 0x3C6EF372FE94F82A, 0xDAA66D2C7DDF743F, 0x6A99B4B1F77DD0FC, 0x8D12E6B76C84D11, 0xB54CDA58FBBEE87E, 0x454021DE755D453B, 0xE3779B97F4A7C150]),
     (Class::Legacy, LaneOp::Movdqu, Operands::WxVx, 32, Tuple::NoTuple, 0, 0, Masked::All, Place::Memory, false, [0x8FF34785799E5CBD, 0x2E2AC13EF8E8D8D2, 0xE753900FB7572B37, 0x858B09C936A1A74C, 0x1715609F7C746C69, 0xC1F9FD3C35369F76, 0x603176F5B4811B8B, 0xF1BBCDCBFA53E0A8]),
     (Class::Vex, LaneOp::Movap, Operands::VxWx, 64, Tuple::NoTuple, 1, 0, Masked::All, Place::Registers, false, [0x56E27EB562EDDF5D, 0x3C6EF372FE94F82A, 0x935172286182D787, 0x3188EBE1E0CD539C, 0x0, 0x0, 0x0, 0x0]),
@@ -206,6 +206,7 @@ pub(crate) static MOVES: [Case; 54] = [
     (Class::Legacy, LaneOp::Movlp, Operands::VxMx, 64, Tuple::T1S, 0, 0, Masked::All, Place::Memory, false, [0xAAE49C9CB8C2330D, 0x2E2AC13EF8E8D8D2, 0xDAA66D2C7DDF743F, 0x6A99B4B1F77DD0FC, 0x8D12E6B76C84D11, 0xB54CDA58FBBEE87E, 0x454021DE755D453B, 0xE3779B97F4A7C150]),
     (Class::Vex, LaneOp::Movhp, Operands::VxHxMx, 64, Tuple::T1S, 0, 0, Masked::All, Place::Memory, false, [0x81AF155173F23D65, 0xAAE49C9CB8C2330D, 0x0, 0x0, 0x0, 0x0, 0x0, 0x0]),
     (Class::Evex, LaneOp::Movlp, Operands::VxHxMx, 64, Tuple::T1S, 0, 0, Masked::All, Place::Memory, false, [0xAAE49C9CB8C2330D, 0x3C6EF372FE94F82A, 0x0, 0x0, 0x0, 0x0, 0x0, 0x0]),
+    (Class::Evex, LaneOp::Movlp, Operands::VxHxMx, 64, Tuple::T2, 0, 0, Masked::All, Place::Memory, false, [0xAAE49C9CB8C2330D, 0x3C6EF372FE94F82A, 0x0, 0x0, 0x0, 0x0, 0x0, 0x0]),
     (Class::Evex, LaneOp::MovhpStore, Operands::MxVx, 64, Tuple::T1S, 0, 0, Masked::All, Place::Memory, false, [0x3C6EF372FE94F82A, 0x3C6EF372FE94F82A, 0xE753900FB7572B37, 0x858B09C936A1A74C, 0x1715609F7C746C69, 0xC1F9FD3C35369F76, 0x603176F5B4811B8B, 0xF1BBCDCBFA53E0A8]),
     (Class::Evex, LaneOp::Movhlps, Operands::VxHxUx, 64, Tuple::NoTuple, 0, 0, Masked::All, Place::Registers, false, [0x3C6EF372FE94F82A, 0x3C6EF372FE94F82A, 0x0, 0x0, 0x0, 0x0, 0x0, 0x0]),
     (Class::Vex, LaneOp::Movddup, Operands::VxWx, 64, Tuple::NoTuple, 1, 0, Masked::All, Place::Memory, false, [0xAAE49C9CB8C2330D, 0xAAE49C9CB8C2330D, 0xE753900FB7572B37, 0xE753900FB7572B37, 0x0, 0x0, 0x0, 0x0]),

@@ -30,6 +30,15 @@ pub(super) fn lane_name(op: LaneOp) -> &'static str {
         LaneOp::Vpsrlv => "vpsrlv",
         LaneOp::Vpsrav => "vpsrav",
         LaneOp::Vpsllv => "vpsllv",
+        LaneOp::Vpror => "vpror",
+        LaneOp::Vprol => "vprol",
+        LaneOp::Vprorv => "vprorv",
+        LaneOp::Vprolv => "vprolv",
+        LaneOp::Vpternlog => "vpternlog",
+        LaneOp::Vpcmpu => "vpcmpu",
+        LaneOp::Vpcmp => "vpcmp",
+        LaneOp::Vptestm => "vptestm",
+        LaneOp::Vptestnm => "vptestnm",
         LaneOp::Andp => "andp",
         LaneOp::Andnp => "andnp",
         LaneOp::Orp => "orp",
@@ -56,7 +65,8 @@ pub(super) fn lane_name(op: LaneOp) -> &'static str {
         LaneOp::Movddup => "movddup",
         LaneOp::Movsldup => "movsldup",
         LaneOp::Movshdup => "movshdup",
-        _ => "another",
+        LaneOp::Vpmaskmov => "vpmaskmov",
+        LaneOp::Vmaskmov => "vmaskmov",
     }
 }
 
@@ -201,7 +211,7 @@ static SHIFTS_AND_LOGIC: [(&'static [u8], VexTold); 22] = [
 
 /// Moves of whole vectors.
 #[rattlefmt::skip]
-static WHOLE_MOVES: [(&'static [u8], VexTold); 18] = [
+static WHOLE_MOVES: [(&'static [u8], VexTold); 26] = [
     // movdqa (%rax),%xmm1
     (&[0x66, 0x0f, 0x6f, 0x08], ("movdqa", 32, 4, 0, 0)),
     // movdqa %xmm1,0x8(%rax)
@@ -238,6 +248,22 @@ static WHOLE_MOVES: [(&'static [u8], VexTold); 18] = [
     (&[0xf2, 0x0f, 0xf0, 0x08], ("lddqu", 32, 4, 0, 0)),
     // vlddqu (%rax),%ymm1
     (&[0xc5, 0xff, 0xf0, 0x08], ("lddqu", 32, 4, 0, 0)),
+    // vmaskmovps (%rax),%ymm2,%ymm1
+    (&[0xc4, 0xe2, 0x6d, 0x2c, 0x08], ("vmaskmov", 32, 5, 0, 2)),
+    // vmaskmovpd 0x8(%r9),%xmm12,%xmm1
+    (&[0xc4, 0xc2, 0x19, 0x2d, 0x49, 0x08], ("vmaskmov", 64, 6, 8, 12)),
+    // vmaskmovps %xmm1,%xmm2,(%rax)
+    (&[0xc4, 0xe2, 0x69, 0x2e, 0x08], ("vmaskmov", 32, 5, 0, 2)),
+    // vmaskmovpd %ymm9,%ymm2,-0x8(%rax)
+    (&[0xc4, 0x62, 0x6d, 0x2f, 0x48, 0xf8], ("vmaskmov", 64, 6, -8, 2)),
+    // vpmaskmovd (%rax),%xmm2,%xmm1
+    (&[0xc4, 0xe2, 0x69, 0x8c, 0x08], ("vpmaskmov", 32, 5, 0, 2)),
+    // vpmaskmovq (%rax),%ymm15,%ymm1
+    (&[0xc4, 0xe2, 0x85, 0x8c, 0x08], ("vpmaskmov", 64, 5, 0, 15)),
+    // vpmaskmovd %ymm1,%ymm2,0x10(%rax)
+    (&[0xc4, 0xe2, 0x6d, 0x8e, 0x48, 0x10], ("vpmaskmov", 32, 6, 16, 2)),
+    // vpmaskmovq %xmm1,%xmm2,(%rax)
+    (&[0xc4, 0xe2, 0xe9, 0x8e, 0x08], ("vpmaskmov", 64, 5, 0, 2)),
 ];
 
 /// Moves of elements, and forms that say something of the encoding.
@@ -362,7 +388,7 @@ pub(super) fn element_move_bytes() -> &'static [(&'static [u8], VexTold)] {
 
 /// What no row takes.
 #[rattlefmt::skip]
-static VECTOR_REFUSED: [&'static [u8]; 26] = [
+static VECTOR_REFUSED: [&'static [u8]; 29] = [
     // L of 256 bits where a row has 128 alone: VMOVD, VMOVQ, VMOVLPS, VMOVHLPS, and 66 0F D6.
     &[0xc5, 0xfd, 0x6e, 0xc8],
     &[0xc5, 0xfe, 0x7e, 0x08],
@@ -387,6 +413,10 @@ static VECTOR_REFUSED: [&'static [u8]; 26] = [
     &[0x66, 0x0f, 0xd7, 0x08],
     &[0x66, 0x0f, 0x71, 0x10, 1],
     &[0xc5, 0xf1, 0x72, 0x20, 1],
+    // A register where memory is needed, and another W: VMASKMOVPS, VPMASKMOVD; VMASKMOVPD with W.
+    &[0xc4, 0xe2, 0x6d, 0x2c, 0xcb],
+    &[0xc4, 0xe2, 0x69, 0x8e, 0xcb],
+    &[0xc4, 0xe2, 0xed, 0x2d, 0x08],
     // A digit that has no row: 66 0F 73 /4; and PADDB and EMMS of MMX, which have no mark.
     &[0x66, 0x0f, 0x73, 0xe1, 1],
     &[0x0f, 0xfc, 0xc1],
