@@ -1,3 +1,4 @@
 pub mod Memory
+pub mod Random
 pub mod State
 pub mod World

@@ -6,8 +6,10 @@ mod kinds;
 mod laws;
 mod pages;
 mod permissions;
+mod random;
 
 pub use kinds::{Access, GuestEnd, Kind, Miss, Stop};
 pub use laws::initial_law;
 pub use pages::{PAGE_SIZE, page_size_law};
 pub use permissions::Perms;
+pub use random::next_random;
