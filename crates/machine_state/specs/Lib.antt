@@ -1,4 +1,5 @@
 pub mod Memory
 pub mod Random
+pub mod Regions
 pub mod State
 pub mod World

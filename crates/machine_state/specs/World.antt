@@ -1,8 +1,11 @@
 -- The world: a machine state, and what the kernel keeps for it.
-use Rattle.std.specs.Prelude.{ℕ, ◌≡◌, ◌≤◌, ◌<◌, ◌+◌, ◌^◌, Bool, true, false, List, length, All, Option, Some, None, IfSome, if◌then◌else◌, ◌==◌}
+use Rattle.std.specs.Prelude.{ℕ, ◌≡◌, ◌≤◌, ◌<◌, ◌+◌, ◌-◌, ◌^◌, Bool, true, false, List, ◌∷◌, length, slice_index_or, replicate, All, Option, Some, None, IfSome}
 use Rattle.std.specs.Int.RustNames.{bit_and}
 use Rattle.machine_state.specs.Memory.{AreBytes}
+use Rattle.machine_state.specs.Regions.{FitRegions}
 use Rattle.machine_state.specs.State.{State, IsState}
+use Rattle.machine_state.specs.declared.kinds.Place.{Place}
+use Rattle.machine_state.specs.declared.kinds.Region.{Region}
 
 -- what a program does on a signal (struct sigaction of x86-64 Linux)
 pub record Action : Type 0 where
@@ -17,21 +20,6 @@ pub record AlternateStack : Type 0 where
   pub addr : ℕ
   pub size : ℕ
 
--- an open file: its place in the list of files, the offset, and how it was opened
-pub record OpenFile : Type 0 where
-  pub file : ℕ
-  pub offset : ℕ
-  pub reads : Bool
-  pub writes : Bool
-  pub appends : Bool
-
--- what a descriptor stands for
-pub data Descriptor : Type 0 where
-  Input : Descriptor
-  Output : Descriptor
-  ErrorOutput : Descriptor
-  Opened : OpenFile → Descriptor
-
 -- a file that the guest can open by its name
 pub record GuestFile : Type 0 where
   pub name : List ℕ
@@ -39,21 +27,21 @@ pub record GuestFile : Type 0 where
   pub exists : Bool
   pub writable : Bool
 
--- the state; the limits on mapped pages and on the bytes of a guest file; for each page whether it is of a file; the heap's
+-- the state; the limits on mapped pages and on the bytes of a guest file; the regions of the mapped pages; the heap's
 -- start and the break; actions by signal, and the blocked signals, as a number whose bit n - 1 stands for signal n and which
--- never has 9 or 19; the alternate stack; descriptors by number; the files; the input that is left; output and error output
+-- never has 9 or 19; the alternate stack; what the descriptors stand for, in the order of their numbers, None where one isn't open; the files; the input that is left; output and error output
 -- whole, with what stood there before; and the number of the random stream
 pub record World : Type 0 where
   pub state : State
   pub pages : ℕ
   pub cap : ℕ
-  pub of_file : ℕ → Bool
+  pub regions : List Region
   pub heap_start : ℕ
   pub break_at : ℕ
   pub actions : ℕ → Action
   pub blocked : ℕ
   pub alternate : AlternateStack
-  pub descriptors : ℕ → Option Descriptor
+  pub descriptors : List (Option Place)
   pub files : List GuestFile
   pub left : List ℕ
   pub out : List ℕ
@@ -66,10 +54,24 @@ default_action = record { handler = 0; flags = 0; restorer = 0; mask = 0 }
 abbrev pub no_alternate : AlternateStack
 no_alternate = record { enabled = false; addr = 0; size = 0 }
 
--- 0, 1 and 2 are open at the start
-abbrev pub first_descriptors : ℕ → Option Descriptor
-first_descriptors number =
-    if number == 0 then Some Input else if number == 1 then Some Output else if number == 2 then Some ErrorOutput else None
+-- how many descriptors a guest has (this program's own)
+abbrev pub descriptor_count : ℕ
+descriptor_count = 64
+
+-- a descriptor that is still a stream: input can be read, and output be written
+abbrev pub input_place : Place
+input_place = record { file = None; at = 0; reads = true; writes = false; append = false }
+
+abbrev pub output_place : Place
+output_place = record { file = None; at = 0; reads = false; writes = true; append = false }
+
+-- 0, 1 and 2 are open at the start, as input, output and error output (POSIX, stdin(3))
+unfoldable pub first_descriptors : List (Option Place)
+first_descriptors = Some input_place ∷ Some output_place ∷ Some output_place ∷ replicate (descriptor_count - 3) None
+
+-- what a descriptor stands for, if it is open
+abbrev pub place_at : List (Option Place) → ℕ → Option Place
+place_at descriptors number = slice_index_or descriptors number None
 
 -- the bits of signals 9 and 19, which can't be blocked (sigprocmask of Linux)
 abbrev pub unblockable : ℕ
@@ -97,12 +99,11 @@ pub record IsGuestFile (cap : ℕ) (file : GuestFile) : Type 0 where
   pub most : length file.content ≤ cap
   pub absent : file.exists ≡ false → length file.content ≡ 0
 
--- what a descriptor of one of so many files can stand for
-abbrev pub IsDescriptor : ℕ → Descriptor → Type 0
-IsDescriptor files Input = Unit {0}
-IsDescriptor files Output = Unit {0}
-IsDescriptor files ErrorOutput = Unit {0}
-IsDescriptor files (Opened place) = (place.file < files) × (place.offset < 2 ^ 64)
+-- what a descriptor with this number can stand for, where there are so many files: a stream has a number below 3
+pub record IsPlace (files number : ℕ) (place : Place) : Type 0 where
+  pub stream : place.file ≡ None → (number < 3) × (place.at ≡ 0)
+  pub file : IfSome place.file (λ file. file < files)
+  pub at : place.at < 2 ^ 63
 
 -- a world as it can be
 pub record IsWorld (world : World) : Type 0 where
@@ -111,7 +112,9 @@ pub record IsWorld (world : World) : Type 0 where
   pub blocked : world.blocked < 2 ^ 64
   pub unblocked : bit_and world.blocked unblockable ≡ 0
   pub alternate : IsAlternate world.alternate
-  pub descriptor : (number : ℕ) → IfSome (world.descriptors number) (IsDescriptor (length world.files))
+  pub regions : FitRegions world.state.memory.perms world.regions
+  pub descriptors : length world.descriptors ≡ descriptor_count
+  pub place : (number : ℕ) → IfSome (place_at world.descriptors number) (IsPlace (length world.files) number)
   pub files : All (IsGuestFile world.cap) world.files
   pub left : AreBytes world.left
   pub out : AreBytes world.out

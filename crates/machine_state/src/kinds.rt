@@ -1,5 +1,7 @@
 //! The plain types that several crates share.
 
+use crate::Perms;
+
 /// What an access does with the bytes that it touches.
 #[derive(Clone, Copy, Debug, Default, PartialEq, Eq)]
 pub enum Kind {
@@ -44,4 +46,29 @@ pub enum GuestEnd {
     Exit(u8),
     /// It was killed by this signal.
     Killed(u8),
+}
+
+/// Adjacent mapped pages with equal permissions and equal origin; by default none.
+#[derive(Clone, Copy, Debug, Default, PartialEq, Eq)]
+pub struct Region {
+    /// The number of the first page.
+    pub first: u64,
+    /// How many pages it has.
+    pub count: u64,
+    pub perms: Perms,
+    /// The pages are of a file, and not anonymous.
+    pub file: bool,
+}
+
+/// What an open descriptor stands for.
+#[derive(Clone, Copy, Debug, PartialEq, Eq)]
+pub struct Place {
+    /// The file, by its number in the list of files; `None` for a descriptor that is still the stream of its number.
+    pub file: Option<u8>,
+    /// The offset, in bytes; 0 of a stream.
+    pub at: u64,
+    pub reads: bool,
+    pub writes: bool,
+    /// Writes go to the file's end.
+    pub append: bool,
 }

@@ -8,7 +8,7 @@ mod pages;
 mod permissions;
 mod random;
 
-pub use kinds::{Access, GuestEnd, Kind, Miss, Stop};
+pub use kinds::{Access, GuestEnd, Kind, Miss, Place, Region, Stop};
 pub use laws::initial_law;
 pub use pages::{PAGE_SIZE, page_size_law};
 pub use permissions::Perms;

@@ -5,8 +5,8 @@ ghost use Rattle.machine_state.specs.Memory.{permits as permits_of};
 use crate::Kind;
 use bitflags::{Flag, Flags, bitflag_items};
 
-/// The permissions of a page, as a set: read 1, write 2, execute 4.
-#[derive(Clone, Copy, Debug, PartialEq, Eq)]
+/// The permissions of a page, as a set: read 1, write 2, execute 4; by default none.
+#[derive(Clone, Copy, Debug, Default, PartialEq, Eq)]
 pub struct Perms(pub u8);
 
 bitflag_items! {
