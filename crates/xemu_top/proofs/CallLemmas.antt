@@ -7,13 +7,13 @@ use Rattle.machine_state.specs.declared.kinds.Kind.TheVariants.{Read}
 use Rattle.machine_state.specs.declared.kinds.Miss.{Miss}
 use Rattle.machine_state.specs.Memory.{Memory, Swap, first_miss, bytes_at}
 use Rattle.machine_state.specs.State.{State}
-use Rattle.machine_state.specs.World.{World, Descriptor, Input, Output, ErrorOutput, Opened, first_descriptors}
+use Rattle.machine_state.specs.World.{World, first_descriptors, place_at}
+use Rattle.machine_state.specs.declared.kinds.Place.{Place}
 use Rattle.guest_pages.specs.Table.{perms_in, answer_of}
 use Rattle.guest_pages.specs.Pages.{PagesValue, table_of, byte_of, memory_of}
 use Rattle.xemu_top.specs.declared.calls.Stream.{Stream}
-use Rattle.xemu_top.specs.declared.calls.Stream.TheVariants.{Output as OutputStream, ErrorOutput as ErrorStream}
-use Rattle.xemu_top.specs.Call.{Ran, put_bytes, put_answer, bad_address, bad_descriptor, write_place, write_to, calls_in_write, rdi, rax, called, calls_in_call, write_call, calls_in_write_call, goes_on, ends, answered, no_such_call}
-use Rattle.xemu_top.specs.Streams.{stream_of, descriptor_of}
+use Rattle.xemu_top.specs.Call.{Ran, put_bytes, put_answer, bad_address, written_stream, rdi, rax, called, calls_in_call, write_call, calls_in_write_call, goes_on, ends, answered, no_such_call}
+use Rattle.xemu_top.specs.Streams.{stream_in}
 
 pub answer_of-err : (o : Option Miss) (miss : Miss) → Err miss ≡ answer_of o → o ≡ Some miss
 answer_of-err None miss h = cc
@@ -43,36 +43,30 @@ module _ (pages : PagesValue) (swap : Swap) (addr count : ℕ) (memory : Memory)
   unfolding put_bytes memory_of
   put_bytes-granted is = rw (← is_memory, is) refl
 
--- a stream's descriptor is open on it
-pub stream_of-some : (o : Option Descriptor) (stream : Stream) → Some stream ≡ stream_of o → o ≡ Some (descriptor_of stream)
-stream_of-some (Some Output) stream h = let is : OutputStream ≡ stream = cc in rw (← is) refl
-stream_of-some (Some ErrorOutput) stream h = let is : ErrorStream ≡ stream = cc in rw (← is) refl
-stream_of-some (Some Input) stream h = cc
-stream_of-some (Some (Opened file)) stream h = cc
-stream_of-some None stream h = cc
-
 -- ---- the arguments of a write
 -- what holds of a write to this place, from this address on and of so many bytes, holds of one with equal arguments
-pub by_arguments : (P : Option Descriptor → ℕ → ℕ → Type 0) (place place' : Option Descriptor) (addr addr' count count' : ℕ)
-    → place ≡ place' → addr ≡ addr' → count ≡ count' → P place addr count → P place' addr' count'
-by_arguments P place place' addr addr' count count' same_place same_addr same_count h =
-    subst (λ (n : ℕ). P place' addr' n) same_count
-    (subst (λ (a : ℕ). P place' a count) same_addr (subst (λ (d : Option Descriptor). P d addr count) same_place h))
+pub by_arguments : (P : Option Stream → ℕ → ℕ → Type 0) (stream stream' : Option Stream) (addr addr' count count' : ℕ)
+    → stream ≡ stream' → addr ≡ addr' → count ≡ count' → P stream addr count → P stream' addr' count'
+by_arguments P stream stream' addr addr' count count' same_stream same_addr same_count h =
+    subst (λ (n : ℕ). P stream' addr' n) same_count
+    (subst (λ (a : ℕ). P stream' a count) same_addr (subst (λ (d : Option Stream). P d addr count) same_stream h))
 
-pub write_place-is : (from : World) (s : State) (number : ℕ) (place : Option Descriptor) → from.descriptors ≡ first_descriptors
-    → s ≡ from.state → number ≡ rdi s → first_descriptors (number % 2 ^ 32) ≡ place → place ≡ write_place from
-write_place-is from s number place first state is_number is_place =
-    sym is_place ∙ ap (λ (n : ℕ). first_descriptors (n % 2 ^ 32)) (is_number ∙ ap rdi state)
-    ∙ ap (λ (f : ℕ → Option Descriptor). f (rdi from.state % 2 ^ 32)) (sym first)
+pub written_stream-is : (from : World) (s : State) (number : ℕ) (stream : Option Stream) → from.descriptors ≡ first_descriptors
+    → s ≡ from.state → number ≡ rdi s → stream ≡ stream_in (number % 2 ^ 32) (place_at first_descriptors (number % 2 ^ 32))
+    → stream ≡ written_stream from
+written_stream-is from s number stream first state is_number is_stream =
+    is_stream ∙ ap (λ (n : ℕ). stream_in (n % 2 ^ 32) (place_at first_descriptors (n % 2 ^ 32))) (is_number ∙ ap rdi state)
+    ∙ ap (λ (places : List (Option Place)). stream_in (rdi from.state % 2 ^ 32) (place_at places (rdi from.state % 2 ^ 32))) (sym first)
 
--- a descriptor that isn't open on a stream takes no bytes
-pub no_stream : (P : World → List HostCall → Type 0) (place : Option Descriptor) (addr count : ℕ) (w : World) → None ≡ stream_of place
-    → P (record w { state = answered w.state bad_descriptor }) [] → P (write_to place addr count w) (calls_in_write place addr count w)
-no_stream P None addr count w is h = h
-no_stream P (Some Input) addr count w is h = h
-no_stream P (Some (Opened file)) addr count w is h = h
-no_stream P (Some Output) addr count w is h = cc
-no_stream P (Some ErrorOutput) addr count w is h = cc
+-- a number that is neither 1 nor 2 has no stream that can be written to
+pub stream_in-none : (number : ℕ) (place : Option Place) → (number ≡ 1 → ⊥) → (number ≡ 2 → ⊥) → stream_in number place ≡ None
+stream_in-none number None not_out not_err = refl
+stream_in-none number (Some place) not_out not_err =
+    rw (ne_eqb number 1 not_out, ne_eqb number 2 not_err) (none_either (is_none place.file))
+
+none_either : (file : Bool) → (if file then None {A = Stream} else None) ≡ None
+none_either true = refl
+none_either false = refl
 
 -- ---- a system call by its number
 module _ (P : Ran → List HostCall → Type 0) (w : World) where

@@ -7,7 +7,8 @@ use Rattle.machine_state.specs.declared.kinds.GuestEnd.{GuestEnd}
 use Rattle.machine_state.specs.declared.kinds.GuestEnd.TheVariants.{Killed}
 use Rattle.machine_state.specs.Memory.{Swap}
 use Rattle.machine_state.specs.State.{State}
-use Rattle.machine_state.specs.World.{World, Output, ErrorOutput, first_descriptors}
+use Rattle.machine_state.specs.World.{World, first_descriptors}
+use Rattle.xemu_top.specs.declared.calls.Stream.TheVariants.{Output, ErrorOutput}
 use Rattle.host_edge.specs.Files.{Held}
 use Rattle.host_edge.specs.Streams.{told}
 use Rattle.core_step.specs.declared.machine.Machine.{Machine}

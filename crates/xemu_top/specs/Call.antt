@@ -8,7 +8,10 @@ use Rattle.host_edge.specs.declared.outside.HostCall.{HostCall}
 use Rattle.host_edge.specs.declared.outside.HostCall.TheVariants.{PutOut, PutErr}
 use Rattle.machine_state.specs.Memory.{page_size, Memory, first_miss, bytes_at}
 use Rattle.machine_state.specs.State.{State}
-use Rattle.machine_state.specs.World.{World, Descriptor, Input, Output, ErrorOutput, Opened}
+use Rattle.machine_state.specs.World.{World, place_at}
+use Rattle.xemu_top.specs.declared.calls.Stream.{Stream}
+use Rattle.xemu_top.specs.declared.calls.Stream.TheVariants.{Output, ErrorOutput}
+use Rattle.xemu_top.specs.Streams.{stream_in}
 
 -- the world after a piece of work, and the guest's end, where it has ended
 pub record Ran : Type 0 where
@@ -63,14 +66,12 @@ put_bytes memory addr count = if is_readable memory addr count then bytes_at mem
 unfoldable pub put_answer : Memory → ℕ → ℕ → ℕ
 put_answer memory addr count = if is_readable memory addr count then count else bad_address
 
--- a write to what a descriptor stands for
-abbrev pub write_to : Option Descriptor → ℕ → ℕ → World → World
+-- a write to the stream of a descriptor, if it has one
+abbrev pub write_to : Option Stream → ℕ → ℕ → World → World
 write_to (Some Output) addr count w =
     record w { state = answered w.state (put_answer w.state.memory addr count); out = w.out ++ put_bytes w.state.memory addr count }
 write_to (Some ErrorOutput) addr count w =
     record w { state = answered w.state (put_answer w.state.memory addr count); err = w.err ++ put_bytes w.state.memory addr count }
-write_to (Some Input) addr count w = record w { state = answered w.state bad_descriptor }
-write_to (Some (Opened file)) addr count w = record w { state = answered w.state bad_descriptor }
 write_to None addr count w = record w { state = answered w.state bad_descriptor }
 
 -- the calls on the outside in it: puts on its stream, where there are bytes to put
@@ -78,11 +79,9 @@ abbrev pub calls_in_put : HostCall → List ℕ → List HostCall
 calls_in_put call [] = []
 calls_in_put call (byte ∷ bytes) = call ∷ []
 
-abbrev pub calls_in_write : Option Descriptor → ℕ → ℕ → World → List HostCall
+abbrev pub calls_in_write : Option Stream → ℕ → ℕ → World → List HostCall
 calls_in_write (Some Output) addr count w = calls_in_put PutOut (put_bytes w.state.memory addr count)
 calls_in_write (Some ErrorOutput) addr count w = calls_in_put PutErr (put_bytes w.state.memory addr count)
-calls_in_write (Some Input) addr count w = []
-calls_in_write (Some (Opened file)) addr count w = []
 calls_in_write None addr count w = []
 
 -- lengths above this count as this (MAX_RW_COUNT of Linux)
@@ -90,18 +89,21 @@ abbrev pub longest_transfer : ℕ
 longest_transfer = 2 ^ 31 - page_size
 
 -- what a write goes to: of the descriptor only the low 32 bits count
-abbrev pub write_place : World → Option Descriptor
-write_place w = w.descriptors (rdi w.state % 2 ^ 32)
+abbrev pub written_descriptor : World → ℕ
+written_descriptor w = rdi w.state % 2 ^ 32
+
+abbrev pub written_stream : World → Option Stream
+written_stream w = stream_in (written_descriptor w) (place_at w.descriptors (written_descriptor w))
 
 abbrev pub write_count : State → ℕ
 write_count s = min (rdx s) longest_transfer
 
 -- write, call 1
 abbrev pub write_call : World → World
-write_call w = write_to (write_place w) (rsi w.state) (write_count w.state) w
+write_call w = write_to (written_stream w) (rsi w.state) (write_count w.state) w
 
 abbrev pub calls_in_write_call : World → List HostCall
-calls_in_write_call w = calls_in_write (write_place w) (rsi w.state) (write_count w.state) w
+calls_in_write_call w = calls_in_write (written_stream w) (rsi w.state) (write_count w.state) w
 
 -- a system call, with rip, rcx and r11 as SYSCALL leaves them: write, exit (call 60, the status is the low 8 bits), and
 -- ENOSYS for every other number

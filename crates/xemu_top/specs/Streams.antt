@@ -1,21 +1,19 @@
 -- The stream that a descriptor is open on, and what puts on a stream do.
-use Rattle.std.specs.Prelude.{◌≡◌, ℕ, ◌<◌, List, length, Option, Some, None, Result, OnOk, OnErr}
-use Rattle.machine_state.specs.World.{Descriptor, Input, Output, ErrorOutput, Opened}
+use Rattle.std.specs.Prelude.{◌≡◌, ℕ, ◌<◌, ◌==◌, if◌then◌else◌, List, length, Option, Some, None, is_none, Result, OnOk, OnErr}
+use Rattle.machine_state.specs.declared.kinds.Place.{Place}
 use Rattle.host_edge.specs.Causes.{Rose}
 use Rattle.host_edge.specs.Streams.{Puts}
 use Rattle.xemu_top.specs.declared.calls.Stream.{Stream}
-use Rattle.xemu_top.specs.declared.calls.Stream.TheVariants.{Output as OutputStream, ErrorOutput as ErrorStream}
+use Rattle.xemu_top.specs.declared.calls.Stream.TheVariants.{Output, ErrorOutput}
 
-abbrev pub stream_of : Option Descriptor → Option Stream
-stream_of (Some Output) = Some OutputStream
-stream_of (Some ErrorOutput) = Some ErrorStream
-stream_of (Some Input) = None
-stream_of (Some (Opened file)) = None
-stream_of None = None
+-- the stream of a number that bytes can be written to, if there is one: 1 is output, and 2 error output (POSIX, stdin(3))
+abbrev pub stream_of : ℕ → Option Stream
+stream_of number = if number == 1 then Some Output else if number == 2 then Some ErrorOutput else None
 
-abbrev pub descriptor_of : Stream → Descriptor
-descriptor_of OutputStream = Output
-descriptor_of ErrorStream = ErrorOutput
+-- the stream that a descriptor with this number is open on, if there is one
+abbrev pub stream_in : ℕ → Option Place → Option Stream
+stream_in number None = None
+stream_in number (Some place) = if is_none place.file then stream_of number else None
 
 -- bytes are put on a sink, by calls as they are needed: what it was given and how often a put failed, before and after. Where there
 -- are no bytes, no call is made

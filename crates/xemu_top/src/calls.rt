@@ -2,13 +2,13 @@
 ghost use Rattle.std.specs.Prelude.{◌≡◌, ◌<◌, ◌≤◌, ◌+◌, ◌%◌, ◌^◌, None, Some, OnOk};
 ghost use Rattle.machine_state.specs.Memory.{page_size, Swap, bytes_at, first_miss};
 ghost use Rattle.machine_state.specs.State.{State};
-ghost use Rattle.machine_state.specs.World.{first_descriptors};
+ghost use Rattle.machine_state.specs.World.{first_descriptors, place_at};
 ghost use Rattle.guest_pages.specs.Table.{blocked, perms_in};
 ghost use Rattle.guest_pages.specs.Pages.{table_of, byte_of};
 ghost use Rattle.guest_pages.specs.Changes.{AllResident};
 ghost use Rattle.xemu_top.specs.Call.{answered, put_bytes, put_answer, write_call, write_to as write_to_spec, called, goes_on, calls_in_write, calls_in_write_call, calls_in_call};
 ghost use Rattle.xemu_top.specs.Following.{EachSwap, HasState, KeepsPages, WorksAs, sinks};
-ghost use Rattle.xemu_top.specs.Streams.{Sends, stream_of, descriptor_of};
+ghost use Rattle.xemu_top.specs.Streams.{Sends, stream_in};
 
 use core_step::Machine;
 use gpr_flags::{RAX, RDI, RDX, RSI};
@@ -34,8 +34,9 @@ pub(crate) enum Stream {
 }
 
 /// The stream that a descriptor is open on; only its low 32 bits count.
+#[tactic(auto, unfolding(machine_state::specs::World::first_descriptors))]
 fn stream_of(descriptor: u64) -> Option<Stream>
-    ensures { result ≡ stream_of (first_descriptors (descriptor % 2 ^ 32)) }
+    ensures { result ≡ stream_in (descriptor % 2 ^ 32) (place_at first_descriptors (descriptor % 2 ^ 32)) }
 {
     match descriptor % 0x1_0000_0000 {
         1 => Some(Stream::Output),
@@ -127,8 +128,8 @@ fn write_stream<O: Sink, E: Sink>(
     err: &mut E,
 ) -> Result<Option<GuestEnd>, HostCall>
     requires { AllResident machine.old.pages }
-    ensures works { WorksAs (λ world. goes_on (write_to_spec (Some (descriptor_of stream)) addr count world))
-        (calls_in_write (Some (descriptor_of stream)) addr count) machine.old machine.new
+    ensures works { WorksAs (λ world. goes_on (write_to_spec (Some stream) addr count world))
+        (calls_in_write (Some stream) addr count) machine.old machine.new
         (sinks (O.taken out.old) (O.faults out.old) (E.taken err.old) (E.faults err.old))
         (sinks (O.taken out.new) (O.faults out.new) (E.taken err.new) (E.faults err.new)) result }
     ensures keeps { KeepsPages machine.old machine.new }

@@ -1,10 +1,12 @@
 use Rattle.std.proofs.Common.{◌%◌, ◌^◌, ◌∙◌, ap, min, refl, ℕ, List, None, Option, Ok}
 use Rattle.host_edge.specs.declared.outside.HostCall.{HostCall}
-use Rattle.machine_state.specs.World.{World, Descriptor, first_descriptors}
-use Rattle.xemu_top.specs.Call.{answered, bad_descriptor, goes_on, write_to, calls_in_write, rdx, rsi, write_count, write_place, longest_transfer}
+use Rattle.machine_state.specs.World.{World, first_descriptors, place_at}
+use Rattle.xemu_top.specs.declared.calls.Stream.{Stream}
+use Rattle.xemu_top.specs.Streams.{stream_in}
+use Rattle.xemu_top.specs.Call.{answered, bad_descriptor, goes_on, write_to, calls_in_write, rdx, rsi, write_count, written_stream, longest_transfer}
 use Rattle.xemu_top.specs.Outside.{IsOutside}
 use Rattle.xemu_top.specs.Following.{Follows}
-use Rattle.xemu_top.proofs.CallLemmas.{by_arguments, no_stream, stream_of-some, write_place-is}
+use Rattle.xemu_top.proofs.CallLemmas.{by_arguments, written_stream-is}
 use Rattle.xemu_top.proofs.FollowLemmas.{follows-whole}
 use Rattle.xemu_top.proofs.RunLemmas.{course-none}
 use Rattle.xemu_top.proofs.calls.write.Goals as goal
@@ -13,11 +15,11 @@ pub returns-in-Some-clause-works : goal.returns-in-Some-clause-works
 returns-in-Some-clause-works g c = record {
   follows = λ swap held left files from stands.
       by_arguments
-      (λ (place : Option Descriptor) (addr count : ℕ). Follows (IsOutside held left (g.O.Sink.taken c.write_stream.new.out) (g.E.Sink.taken c.write_stream.new.err)) swap
-      c.write_stream.new.machine files from (goes_on (write_to place addr count from)) (calls_in_write place addr count from) c.write_stream.result)
-      _ (write_place from) _ (rsi from.state) _ (write_count from.state)
-      (write_place-is from _ c.get-descriptor.result _ stands.descriptors stands.state c.get-descriptor.ensures
-      (stream_of-some (first_descriptors (c.get-descriptor.result % 2 ^ 32)) c.in-Some.stream c.in-Some.ensures))
+      (λ (stream : Option Stream) (addr count : ℕ). Follows (IsOutside held left (g.O.Sink.taken c.write_stream.new.out) (g.E.Sink.taken c.write_stream.new.err)) swap
+      c.write_stream.new.machine files from (goes_on (write_to stream addr count from)) (calls_in_write stream addr count from) c.write_stream.result)
+      _ (written_stream from) _ (rsi from.state) _ (write_count from.state)
+      (written_stream-is from _ c.get-descriptor.result (Some c.in-Some.stream) stands.descriptors stands.state c.get-descriptor.ensures
+      c.in-Some.ensures)
       (c.get-addr.ensures ∙ ap rsi stands.state)
       (c.min-count.ensures ∙ ap (λ (n : ℕ). min n longest_transfer) (c.get.ensures ∙ ap rdx stands.state))
       (c.write_stream.ensures.works.follows swap held left files from stands);
@@ -29,17 +31,13 @@ pub returns-in-None-clause-works : goal.returns-in-None-clause-works
 returns-in-None-clause-works g c = record {
   follows = λ swap held left files from stands.
       by_arguments
-      (λ (place : Option Descriptor) (addr count : ℕ). Follows (IsOutside held left (g.O.Sink.taken c.args.out.now) (g.E.Sink.taken c.args.err.now)) swap
-      c.set_answer.new.machine files from (goes_on (write_to place addr count from)) (calls_in_write place addr count from) (Ok None))
-      (first_descriptors (c.get-descriptor.result % 2 ^ 32)) (write_place from) _ (rsi from.state) _ (write_count from.state)
-      (write_place-is from _ c.get-descriptor.result _ stands.descriptors stands.state c.get-descriptor.ensures refl)
+      (λ (stream : Option Stream) (addr count : ℕ). Follows (IsOutside held left (g.O.Sink.taken c.args.out.now) (g.E.Sink.taken c.args.err.now)) swap
+      c.set_answer.new.machine files from (goes_on (write_to stream addr count from)) (calls_in_write stream addr count from) (Ok None))
+      None (written_stream from) (rsi from.state) (rsi from.state) (write_count from.state) (write_count from.state)
+      (written_stream-is from _ c.get-descriptor.result None stands.descriptors stands.state c.get-descriptor.ensures c.in-None.ensures)
       refl refl
-      (no_stream
-      (λ (w : World) (calls : List HostCall). Follows (IsOutside held left (g.O.Sink.taken c.args.out.now) (g.E.Sink.taken c.args.err.now)) swap
-      c.set_answer.new.machine files from (goes_on w) calls (Ok None))
-      (first_descriptors (c.get-descriptor.result % 2 ^ 32)) (rsi from.state) (write_count from.state) from c.in-None.ensures
       (follows-whole _ swap files from stands.descriptors stands.outside_is c.set_answer.new.machine (answered from.state bad_descriptor) None _
-      (c.set_answer.ensures.state swap from.state stands.state)));
+      (c.set_answer.ensures.state swap from.state stands.state));
   course = course-none _;
   signal = tt;
 }
