@@ -1,36 +1,49 @@
 -- What a displacement of one byte is multiplied by: the number N of disp8*N (Intel SDM volume 2, section 2.7.5).
-use Rattle.std.specs.Prelude.{ℕ, ℤ, pos, ◌*◌, ◌*ℤ◌, ◌/◌, ◌==◌, Bool, if◌then◌else◌}
+use Rattle.std.specs.Prelude.{ℤ, ℕ, pos, ◌*ℤ◌, ◌/◌, ◌==◌, ◌&&◌, Bool, true, false, if◌then◌else◌}
 use Rattle.row_table.specs.declared.kinds.Tuple.{Tuple}
 use Rattle.row_table.specs.declared.kinds.Tuple.TheVariants.{NoTuple, Full, Half, FullMem, HalfMem, QuarterMem, EighthMem, Mem128, T1S, T2, T4, T8}
 use Rattle.row_table.specs.declared.kinds.Row.{Row}
 use Rattle.row_table.specs.declared.kinds.Fields.{Fields}
+use Rattle.row_table.specs.Tuples.{vector_bytes, element_bytes, tuple_bytes}
 
--- the bytes of a vector, by L'L (table 2-36)
-abbrev pub vector_bytes : (l : ℕ) → ℕ
-vector_bytes l = if l == 0 then 16 else if l == 1 then 32 else 64
+-- whether an operand in memory may be one element for all lanes (table 2-34)
+abbrev pub has_broadcast : Tuple → Bool
+has_broadcast Full = true
+has_broadcast Half = true
+has_broadcast NoTuple = false
+has_broadcast FullMem = false
+has_broadcast HalfMem = false
+has_broadcast QuarterMem = false
+has_broadcast EighthMem = false
+has_broadcast Mem128 = false
+has_broadcast T1S = false
+has_broadcast T2 = false
+has_broadcast T4 = false
+has_broadcast T8 = false
 
--- the bytes of an element that is broadcast, by W (section 2.7.7)
-abbrev pub broadcast_bytes : (w : Bool) → ℕ
-broadcast_bytes w = if w then 8 else 4
+-- whether its tuple is Half, in which an element that is broadcast has 32 bits whatever W is (table 2-34)
+abbrev pub is_half : Tuple → Bool
+is_half Half = true
+is_half NoTuple = false
+is_half Full = false
+is_half FullMem = false
+is_half HalfMem = false
+is_half QuarterMem = false
+is_half EighthMem = false
+is_half Mem128 = false
+is_half T1S = false
+is_half T2 = false
+is_half T4 = false
+is_half T8 = false
 
--- N, by the bytes of an element of the row and of a vector (tables 2-34 and 2-35); a row without a tuple has no operand in memory
-abbrev pub tuple_bytes : Tuple → (element vector : ℕ) → (bc w : Bool) → ℕ
-tuple_bytes NoTuple element vector bc w = 1
-tuple_bytes Full element vector bc w = if bc then broadcast_bytes w else vector
-tuple_bytes Half element vector bc w = if bc then 4 else vector / 2
-tuple_bytes FullMem element vector bc w = vector
-tuple_bytes HalfMem element vector bc w = vector / 2
-tuple_bytes QuarterMem element vector bc w = vector / 4
-tuple_bytes EighthMem element vector bc w = vector / 8
-tuple_bytes Mem128 element vector bc w = 16
-tuple_bytes T1S element vector bc w = element
-tuple_bytes T2 element vector bc w = 2 * element
-tuple_bytes T4 element vector bc w = 4 * element
-tuple_bytes T8 element vector bc w = 8 * element
+-- the bytes of an element that is broadcast
+abbrev pub broadcast_bytes : Tuple → (w : Bool) → ℕ
+broadcast_bytes tuple w = if is_half tuple then 4 else element_bytes w
 
--- that of a row and its fields
+-- N of a row and its fields: the bytes of the operand in memory, which with b is one element
 unfoldable pub scale_of : Row → Fields → ℕ
-scale_of r f = tuple_bytes r.tuple (r.width / 8) (vector_bytes f.l) f.bc f.w
+scale_of r f =
+    if f.bc && has_broadcast r.tuple then broadcast_bytes r.tuple f.w else tuple_bytes r.tuple (r.width / 8) (vector_bytes f.l)
 
 -- the displacement in bytes: one of one byte is multiplied, and any other is as it is
 abbrev pub displacement_of : Row → Fields → ℤ

@@ -7,13 +7,13 @@ use Rattle.row_table.specs.declared.kinds.Form.TheVariants.{Memory as InMemory}
 use Rattle.row_table.specs.declared.kinds.Tuple.{Tuple}
 use Rattle.row_table.specs.declared.kinds.Tuple.TheVariants.{NoTuple, Full, Half, FullMem, HalfMem, QuarterMem, EighthMem, Mem128, T1S, T2, T4, T8}
 use Rattle.row_table.specs.declared.kinds.MaskKind.{MaskKind}
-use Rattle.row_table.specs.declared.kinds.MaskKind.TheVariants.{NoMask, MergeZero, ToMask, Blend, Compress, Required, Signs, SignsZero}
+use Rattle.row_table.specs.declared.kinds.MaskKind.TheVariants.{NoMask, MergeZero, ToMask, Blend, Compress, Expand, Required, Signs, SignsZero, Select}
 use Rattle.row_table.specs.declared.kinds.Row.{Row}
 use Rattle.row_table.specs.declared.kinds.Fields.{Fields}
 use Rattle.row_table.specs.Letters.{layout_of}
 use Rattle.row_table.specs.Shapes.{form_fits}
 use Rattle.row_table.specs.Spelling.{Encoding, without_prefixes, bytes_fit, uses_vvvv, opmasks_fit, writes_rm}
-use Rattle.evex_decode.specs.Scale.{displacement_of}
+use Rattle.evex_decode.specs.Scale.{has_broadcast, displacement_of}
 
 -- ---- numbers of their bits
 -- R and R' are two bits, X and B one each, V' and vvvv five, pp two and aaa three; L'L is 0, 1 or 2, and 3 is no length (Intel SDM
@@ -107,9 +107,11 @@ takes_mask MergeZero aaa = true
 takes_mask ToMask aaa = true
 takes_mask Blend aaa = true
 takes_mask Compress aaa = true
+takes_mask Expand aaa = true
 takes_mask Required aaa = not (aaa == 0)
 takes_mask Signs aaa = aaa == 0
 takes_mask SignsZero aaa = aaa == 0
+takes_mask Select aaa = aaa == 0
 
 abbrev pub mask_fits : Row → Fields → Bool
 mask_fits r f = takes_mask r.mask f.aaa
@@ -121,9 +123,11 @@ may_zero MergeZero = true
 may_zero ToMask = false
 may_zero Blend = true
 may_zero Compress = true
+may_zero Expand = true
 may_zero Required = false
 may_zero Signs = false
 may_zero SignsZero = false
+may_zero Select = false
 
 -- the destination is in memory
 abbrev pub writes_memory : Row → Fields → Bool
@@ -134,21 +138,6 @@ abbrev pub zeroing_fits : Row → Fields → Bool
 zeroing_fits r f = not f.z || (not (f.aaa == 0) && (may_zero r.mask && not (writes_memory r f)))
 
 -- ---- broadcast
--- whether an operand in memory may be one element for all lanes (Intel SDM volume 2, section 2.7.5, table 2-34)
-abbrev pub has_broadcast : Tuple → Bool
-has_broadcast Full = true
-has_broadcast Half = true
-has_broadcast NoTuple = false
-has_broadcast FullMem = false
-has_broadcast HalfMem = false
-has_broadcast QuarterMem = false
-has_broadcast EighthMem = false
-has_broadcast Mem128 = false
-has_broadcast T1S = false
-has_broadcast T2 = false
-has_broadcast T4 = false
-has_broadcast T8 = false
-
 -- Broadcast is there for such an operand in memory alone; for registers b would be rounding, which is that of floating-point
 -- instructions (Intel SDM volume 2, sections 2.7.6 and 2.7.11.3, table 2-41).
 abbrev pub broadcast_fits : Row → Fields → Bool

@@ -1,6 +1,7 @@
 //! Which masks, zeroing and broadcast a row of EVEX takes.
 ghost use Rattle.std.specs.Prelude.{◌≡◌};
-ghost use Rattle.evex_decode.specs.Spelling.{takes_mask, mask_fits, may_zero, writes_memory, zeroing_fits, has_broadcast, broadcast_fits};
+ghost use Rattle.evex_decode.specs.Scale.{has_broadcast};
+ghost use Rattle.evex_decode.specs.Spelling.{takes_mask, mask_fits, may_zero, writes_memory, zeroing_fits, broadcast_fits};
 
 use row_table::{Fields, MaskKind, Row, Tuple, does_write_rm, is_memory};
 
@@ -9,8 +10,12 @@ fn does_take_mask(kind: MaskKind, aaa: u8) -> bool
     ensures { result ≡ takes_mask kind aaa }
 {
     match kind {
-        MaskKind::NoMask | MaskKind::Signs | MaskKind::SignsZero => aaa == 0,
-        MaskKind::MergeZero | MaskKind::ToMask | MaskKind::Blend | MaskKind::Compress => true,
+        MaskKind::NoMask | MaskKind::Signs | MaskKind::SignsZero | MaskKind::Select => aaa == 0,
+        MaskKind::MergeZero
+        | MaskKind::ToMask
+        | MaskKind::Blend
+        | MaskKind::Compress
+        | MaskKind::Expand => true,
         MaskKind::Required => aaa != 0,
     }
 }
@@ -27,12 +32,13 @@ fn can_zero(kind: MaskKind) -> bool
     ensures { result ≡ may_zero kind }
 {
     match kind {
-        MaskKind::MergeZero | MaskKind::Blend | MaskKind::Compress => true,
+        MaskKind::MergeZero | MaskKind::Blend | MaskKind::Compress | MaskKind::Expand => true,
         MaskKind::NoMask
         | MaskKind::ToMask
         | MaskKind::Required
         | MaskKind::Signs
-        | MaskKind::SignsZero => false,
+        | MaskKind::SignsZero
+        | MaskKind::Select => false,
     }
 }
 
@@ -51,7 +57,7 @@ pub(crate) fn does_zeroing_fit(row: &Row, fields: &Fields) -> bool
 }
 
 /// Whether an operand in memory of that tuple may be one element for all lanes.
-fn does_have_broadcast(tuple: Tuple) -> bool
+pub(crate) fn does_have_broadcast(tuple: Tuple) -> bool
     ensures { result ≡ has_broadcast tuple }
 {
     match tuple {

@@ -1,26 +1,36 @@
 //! What a displacement of one byte is multiplied by.
 ghost use Rattle.std.specs.Prelude.{◌≡◌, ◌≤ℤ◌, ◌<ℤ◌, ◌*ℤ◌, pos, negsuc, true};
-ghost use Rattle.evex_decode.specs.Scale.{vector_bytes as vector_of, broadcast_bytes as broadcast_of, scale_of, displacement_of};
+ghost use Rattle.evex_decode.specs.Scale.{is_half as is_half_tuple, broadcast_bytes as broadcast_bytes_of, scale_of, displacement_of};
 ghost use Rattle.evex_decode.specs.Spelling.{byte_fits};
 
-use row_table::{Fields, Row, Tuple};
+use crate::masking::does_have_broadcast;
+use row_table::{Fields, Row, Tuple, element_bytes, tuple_bytes, vector_bytes};
 
-/// The bytes of a vector, by L'L.
-fn vector_bytes(l: u8) -> u8
-    ensures { result ≡ vector_of l }
+/// Whether a tuple is Half.
+fn is_half(tuple: Tuple) -> bool
+    ensures { result ≡ is_half_tuple tuple }
 {
-    match l {
-        0 => 16,
-        1 => 32,
-        _ => 64,
+    match tuple {
+        Tuple::Half => true,
+        Tuple::NoTuple
+        | Tuple::Full
+        | Tuple::FullMem
+        | Tuple::HalfMem
+        | Tuple::QuarterMem
+        | Tuple::EighthMem
+        | Tuple::Mem128
+        | Tuple::T1S
+        | Tuple::T2
+        | Tuple::T4
+        | Tuple::T8 => false,
     }
 }
 
-/// The bytes of an element that is broadcast, by W.
-fn broadcast_bytes(w: bool) -> u8
-    ensures { result ≡ broadcast_of w }
+/// The bytes of an element that is broadcast.
+fn broadcast_bytes(tuple: Tuple, w: bool) -> u8
+    ensures { result ≡ broadcast_bytes_of tuple w }
 {
-    if w { 8 } else { 4 }
+    if is_half(tuple) { 4 } else { element_bytes(w) }
 }
 
 /// The number N of disp8*N.
@@ -28,25 +38,10 @@ fn broadcast_bytes(w: bool) -> u8
 pub(crate) fn scale(row: &Row, fields: &Fields) -> u8
     ensures { result ≡ scale_of row.now fields.now }
 {
-    let element = row.width / 8;
-    let vector = vector_bytes(fields.l);
-    match row.tuple {
-        Tuple::NoTuple => 1,
-        Tuple::Full => if fields.bc {
-            broadcast_bytes(fields.w)
-        } else {
-            vector
-        },
-        Tuple::Half => if fields.bc { 4 } else { vector / 2 },
-        Tuple::FullMem => vector,
-        Tuple::HalfMem => vector / 2,
-        Tuple::QuarterMem => vector / 4,
-        Tuple::EighthMem => vector / 8,
-        Tuple::Mem128 => 16,
-        Tuple::T1S => element,
-        Tuple::T2 => 2 * element,
-        Tuple::T4 => 4 * element,
-        Tuple::T8 => 8 * element,
+    if fields.bc && does_have_broadcast(row.tuple) {
+        broadcast_bytes(row.tuple, fields.w)
+    } else {
+        tuple_bytes(row.tuple, row.width / 8, vector_bytes(fields.l))
     }
 }
 

@@ -7,7 +7,7 @@ use Rattle.row_table.specs.Letters.{layout_of, letters}
 use Rattle.row_table.specs.Rows.{rows, table, starts}
 use Rattle.row_table.proofs.Index.{index_fits, indexed, passes_by, ranged, rises, at_most}
 use Rattle.row_table.proofs.Pairs.{ordered, passes_near, near, together}
-use Rattle.row_table.proofs.Tuples.{tupled}
+use Rattle.row_table.proofs.Tupled.{tupled}
 
 -- the rows of the definition are those of the code
 pub rows-table : rows ≡ table

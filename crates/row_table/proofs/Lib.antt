@@ -1,6 +1,6 @@
 pub mod Index
 pub mod Pairs
-pub mod Tuples
+pub mod Tupled
 pub mod Computed
 pub mod Places
 pub mod Unique

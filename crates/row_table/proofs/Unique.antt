@@ -9,7 +9,7 @@ use Rattle.row_table.specs.Shapes.{shape_of}
 use Rattle.row_table.specs.Matching.{Fits, Matches, by_mark, without_mark, IsTable}
 use Rattle.row_table.proofs.Index.{place-of, some_same}
 use Rattle.row_table.proofs.Pairs.{near-at, together, together-parts, apart, agree, agree-same, shares, shares_none, shares-from, shares_none-first, shares_none-second, not-both}
-use Rattle.row_table.proofs.Tuples.{has-tuple}
+use Rattle.row_table.proofs.Tupled.{has-tuple}
 use Rattle.row_table.proofs.Computed.{rows-ordered, rows-together, rows-tupled}
 use Rattle.row_table.proofs.Places.{placed-here}
 

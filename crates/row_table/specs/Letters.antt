@@ -4,7 +4,7 @@ use Rattle.std.specs.Prelude.{ℕ, zero, suc, ◌+◌, Option, Some, None, List,
 use Rattle.std.specs.List.{list_any}
 use Rattle.std.specs.Option.{is_some}
 use Rattle.row_table.specs.declared.kinds.Operands.{Operands}
-use Rattle.row_table.specs.declared.kinds.Operands.TheVariants.{Implied, OpcodeReg, RaxOpcodeReg, OpcodeRegIb, OpcodeRegIv, Ib, Iw, Iz, Jb, Jz, AlIb, RaxIz, AlOb, RaxOv, ObAl, OvRax, Eb, Ev, EbGb, EvGv, GbEb, GvEv, GvEb, GvEw, GvEd, EbIb, EvIb, EvIz, EbOne, EvOne, EbCl, EvCl, GvEvIb, GvEvIz, EvGvIb, EvGvCl, GvM, MvGv, M as MemoryAlone, R as RegisterAlone, ByteD0, GyByEy, GyEyBy, ByEy, GyEyIb, VxHxWx, VxHxWxIb, VxHxWdq, VxHxWxLx, VxWx, VxWdq, VxWxIb, VxWxXmm0, WxVx, WxVxIb, HxWxIb, HxUxIb, UxIb, VxMx, MxVx, VxHxMx, MxHxVx, VxHxUx, UxHxVx, VxUx, UxVx, VxEv, EvVx, VxHxEvIb, EvVxIb, VxRv, GvUx, GvUxIb, VxVm, VxVmHx, VmVx, KxHxWx, KxHxWxIb, KxUx, VxKx, KxKx, KxKxKx, KxKxIb, KxKm, MxKx, KxRv, GvKx}
+use Rattle.row_table.specs.declared.kinds.Operands.TheVariants.{Implied, OpcodeReg, RaxOpcodeReg, OpcodeRegIb, OpcodeRegIv, Ib, Iw, Iz, Jb, Jz, AlIb, RaxIz, AlOb, RaxOv, ObAl, OvRax, Eb, Ev, EbGb, EvGv, GbEb, GvEv, GvEb, GvEw, GvEd, EbIb, EvIb, EvIz, EbOne, EvOne, EbCl, EvCl, GvEvIb, GvEvIz, EvGvIb, EvGvCl, GvM, MvGv, M as MemoryAlone, R as RegisterAlone, ByteD0, GyByEy, GyEyBy, ByEy, GyEyIb, VxHxWx, VxHxWxIb, VxHxWdq, VxHxWxLx, VxWx, VxWdq, VxWxIb, VxWxXmm0, WxVx, WxVxIb, HxWxIb, HxUxIb, UxIb, VxMx, MxVx, VxHxMx, VxHxMxIb, MxHxVx, VxHxUx, VxHxUxIb, UxHxVx, VxUx, UxVx, VxEv, EvVx, VxHxEvIb, EvVxIb, VxRv, GvUx, GvUxIb, VxVm, VxVmHx, VmVx, KxHxWx, KxHxWxIb, KxUx, VxKx, KxKx, KxKxKx, KxKxIb, KxKm, MxKx, KxRv, GvKx}
 use Rattle.row_table.specs.declared.kinds.Spot.{Spot}
 use Rattle.row_table.specs.declared.kinds.Spot.TheVariants.{Absent, Reg, Rm, Vvvv, OpcodeReg as InOpcode, Rax, Cl, Memory as InMemory, VectorMemory, Offset, Immediate, Relative, One as NumberOne, VectorReg, VectorRm, VectorVvvv, VectorImmediate, Xmm0, OpmaskReg, OpmaskRm, OpmaskVvvv}
 use Rattle.row_table.specs.declared.kinds.Extent.{Extent}
@@ -137,8 +137,10 @@ letters UxIb = U x ∷ I b ∷ []
 letters VxMx = V x ∷ M x ∷ []
 letters MxVx = M x ∷ V x ∷ []
 letters VxHxMx = V x ∷ H x ∷ M x ∷ []
+letters VxHxMxIb = V x ∷ H x ∷ M x ∷ I b ∷ []
 letters MxHxVx = M x ∷ H x ∷ V x ∷ []
 letters VxHxUx = V x ∷ H x ∷ U x ∷ []
+letters VxHxUxIb = V x ∷ H x ∷ U x ∷ I b ∷ []
 letters UxHxVx = U x ∷ H x ∷ V x ∷ []
 letters VxUx = V x ∷ U x ∷ []
 letters UxVx = U x ∷ V x ∷ []

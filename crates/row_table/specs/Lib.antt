@@ -12,3 +12,4 @@ pub mod Evex
 pub mod Rows
 pub mod Matching
 pub mod Spelling
+pub mod Tuples

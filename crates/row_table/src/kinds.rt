@@ -105,8 +105,10 @@ pub enum Operands {
     VxMx,
     MxVx,
     VxHxMx,
+    VxHxMxIb,
     MxHxVx,
     VxHxUx,
+    VxHxUxIb,
     UxHxVx,
     VxUx,
     UxVx,
@@ -263,14 +265,18 @@ pub enum MaskKind {
     ToMask,
     /// A masked-out lane is the first source's, or 0 with z.
     Blend,
-    /// The masked-in lanes stand one after the other from lane 0 up.
+    /// The masked-in lanes stand one after the other from lane 0 up, in a register and in memory.
     Compress,
+    /// A masked-out lane keeps its old value, or is 0 with z; memory holds the masked-in lanes one after the other.
+    Expand,
     /// A mask has to be named, and z is refused: gathers and scatters.
     Required,
     /// By the signs of a vector register's elements, masked-out lanes stay.
     Signs,
     /// By the signs of a vector register's elements, masked-out lanes are 0.
     SignsZero,
+    /// The signs of a vector register's elements choose between two sources, and no lane is masked out.
+    Select,
 }
 
 /// The alignment that a row's memory operand must have.

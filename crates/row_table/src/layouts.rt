@@ -22,7 +22,7 @@ macro_rules! layouts {
 /// What each list of operands says, in the order of `Operands`: its four places, whether ModRM follows the
 /// opcode, the size of the immediate as a code, and which form of ModRM is taken.
 #[rattlefmt::skip]
-static LAYOUTS: [Layout; 87] = layouts![
+static LAYOUTS: [Layout; 89] = layouts![
     (Implied: Absent Own, Absent Own, Absent Own, Absent Own; false 0 Form::Either),
     (OpcodeReg: OpcodeReg Sized, Absent Own, Absent Own, Absent Own; false 0 Form::Either),
     (RaxOpcodeReg: Rax Sized, OpcodeReg Sized, Absent Own, Absent Own; false 0 Form::Either),
@@ -84,8 +84,10 @@ static LAYOUTS: [Layout; 87] = layouts![
     (VxMx: VectorReg Vector, Memory Vector, Absent Own, Absent Own; true 0 Form::Memory),
     (MxVx: Memory Vector, VectorReg Vector, Absent Own, Absent Own; true 0 Form::Memory),
     (VxHxMx: VectorReg Vector, VectorVvvv Vector, Memory Vector, Absent Own; true 0 Form::Memory),
+    (VxHxMxIb: VectorReg Vector, VectorVvvv Vector, Memory Vector, Immediate Byte; true 1 Form::Memory),
     (MxHxVx: Memory Vector, VectorVvvv Vector, VectorReg Vector, Absent Own; true 0 Form::Memory),
     (VxHxUx: VectorReg Vector, VectorVvvv Vector, VectorRm Vector, Absent Own; true 0 Form::Register),
+    (VxHxUxIb: VectorReg Vector, VectorVvvv Vector, VectorRm Vector, Immediate Byte; true 1 Form::Register),
     (UxHxVx: VectorRm Vector, VectorVvvv Vector, VectorReg Vector, Absent Own; true 0 Form::Register),
     (VxUx: VectorReg Vector, VectorRm Vector, Absent Own, Absent Own; true 0 Form::Register),
     (UxVx: VectorRm Vector, VectorReg Vector, Absent Own, Absent Own; true 0 Form::Register),

@@ -9,6 +9,7 @@ mod matching;
 mod operations;
 mod spelling;
 mod table;
+mod tuples;
 
 pub use finding::{find, is_used, row, row_count, shape};
 pub use kinds::{
@@ -25,6 +26,7 @@ pub use spelling::{
     are_bytes_there, do_opmasks_fit, do_registers_fit, does_write_rm, is_memory, is_vvvv_used,
     is_without_evex, is_without_prefixes,
 };
+pub use tuples::{element_bytes, tuple_bytes, vector_bytes};
 
 #[cfg(test)]
 mod tests;
