@@ -13,7 +13,7 @@ TO_MEMORY = "Eb Ev EbGb EvGv EbIb EvIb EvIz M".split()
 
 # The operands that need memory in ModRM.r/m, or a register.
 MEMORY_ONLY = "M GvM MvGv VxMx MxVx VxHxMx MxHxVx VxVm VxVmHx VmVx MxKx".split()
-REGISTER_ONLY = "R HxUxIb UxIb VxHxUx UxHxVx VxUx UxVx VxRv GvUx GvUxIb KxUx VxKx KxKx KxKxKx KxKxIb KxRv GvKx".split()
+REGISTER_ONLY = "R HxUxIb UxIb VxHxUx VxHxUxIb UxHxVx VxUx VxUxIb UxVx VxRv GvUx GvUxIb KxUx VxKx KxKx KxKxKx KxKxIb KxRv GvKx".split()
 
 # The operands whose first may be in memory, of those on vectors.
 STORES = "WxVx WxVxIb MxVx MxHxVx EvVx EvVxIb VmVx".split()

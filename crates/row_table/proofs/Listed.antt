@@ -6,7 +6,7 @@ use Rattle.std.proofs.lemmas.Option.{slice_get-map, slice_get_within, get_or_fro
 use denote.Enum.Declared.{tag_of}
 use Rattle.row_table.specs.contracts.kinds.Operands.{the_type}
 use Rattle.row_table.specs.declared.kinds.Operands.{Operands}
-use Rattle.row_table.specs.declared.kinds.Operands.TheVariants.{Implied, OpcodeReg, RaxOpcodeReg, OpcodeRegIb, OpcodeRegIv, Ib, Iw, Iz, Jb, Jz, AlIb, RaxIz, AlOb, RaxOv, ObAl, OvRax, Eb, Ev, EbGb, EvGv, GbEb, GvEv, GvEb, GvEw, GvEd, EbIb, EvIb, EvIz, EbOne, EvOne, EbCl, EvCl, GvEvIb, GvEvIz, EvGvIb, EvGvCl, GvM, MvGv, M, R, ByteD0, GyByEy, GyEyBy, ByEy, GyEyIb, VxHxWx, VxHxWxIb, VxHxWdq, VxHxWxLx, VxWx, VxWdq, VxWxIb, VxWxXmm0, WxVx, WxVxIb, HxWxIb, HxUxIb, UxIb, VxMx, MxVx, VxHxMx, VxHxMxIb, MxHxVx, VxHxUx, VxHxUxIb, UxHxVx, VxUx, UxVx, VxEv, EvVx, VxHxEvIb, EvVxIb, VxRv, GvUx, GvUxIb, VxVm, VxVmHx, VmVx, KxHxWx, KxHxWxIb, KxUx, VxKx, KxKx, KxKxKx, KxKxIb, KxKm, MxKx, KxRv, GvKx}
+use Rattle.row_table.specs.declared.kinds.Operands.TheVariants.{Implied, OpcodeReg, RaxOpcodeReg, OpcodeRegIb, OpcodeRegIv, Ib, Iw, Iz, Jb, Jz, AlIb, RaxIz, AlOb, RaxOv, ObAl, OvRax, Eb, Ev, EbGb, EvGv, GbEb, GvEv, GvEb, GvEw, GvEd, EbIb, EvIb, EvIz, EbOne, EvOne, EbCl, EvCl, GvEvIb, GvEvIz, EvGvIb, EvGvCl, GvM, MvGv, M, R, ByteD0, GyByEy, GyEyBy, ByEy, GyEyIb, VxHxWx, VxHxWxIb, VxHxWdq, VxHxWxLx, VxWx, VxWdq, VxWxIb, VxWxXmm0, WxVx, WxVxIb, HxWxIb, HxUxIb, UxIb, VxMx, VxMxIb, MxVx, VxHxMx, VxHxMxIb, MxHxVx, VxHxUx, VxHxUxIb, UxHxVx, VxUx, VxUxIb, UxVx, VxEv, EvVx, VxEvIb, VxHxEvIb, EvVxIb, VxRv, GvUx, GvUxIb, VxVm, VxVmHx, VmVx, KxHxWx, KxHxWxIb, KxUx, VxKx, KxKx, KxKxKx, KxKxIb, KxKm, MxKx, KxRv, GvKx}
 use Rattle.row_table.specs.declared.kinds.Layout.{Layout}
 use Rattle.row_table.specs.Letters.{layout_of, letters}
 use Rattle.row_table.specs.Order.{order, layouts}
@@ -76,6 +76,7 @@ at-number HxWxIb = refl
 at-number HxUxIb = refl
 at-number UxIb = refl
 at-number VxMx = refl
+at-number VxMxIb = refl
 at-number MxVx = refl
 at-number VxHxMx = refl
 at-number VxHxMxIb = refl
@@ -84,9 +85,11 @@ at-number VxHxUx = refl
 at-number VxHxUxIb = refl
 at-number UxHxVx = refl
 at-number VxUx = refl
+at-number VxUxIb = refl
 at-number UxVx = refl
 at-number VxEv = refl
 at-number EvVx = refl
+at-number VxEvIb = refl
 at-number VxHxEvIb = refl
 at-number EvVxIb = refl
 at-number VxRv = refl

@@ -4,7 +4,7 @@ use Rattle.std.specs.Prelude.{ℕ, zero, suc, ◌+◌, Option, Some, None, List,
 use Rattle.std.specs.List.{list_any}
 use Rattle.std.specs.Option.{is_some}
 use Rattle.row_table.specs.declared.kinds.Operands.{Operands}
-use Rattle.row_table.specs.declared.kinds.Operands.TheVariants.{Implied, OpcodeReg, RaxOpcodeReg, OpcodeRegIb, OpcodeRegIv, Ib, Iw, Iz, Jb, Jz, AlIb, RaxIz, AlOb, RaxOv, ObAl, OvRax, Eb, Ev, EbGb, EvGv, GbEb, GvEv, GvEb, GvEw, GvEd, EbIb, EvIb, EvIz, EbOne, EvOne, EbCl, EvCl, GvEvIb, GvEvIz, EvGvIb, EvGvCl, GvM, MvGv, M as MemoryAlone, R as RegisterAlone, ByteD0, GyByEy, GyEyBy, ByEy, GyEyIb, VxHxWx, VxHxWxIb, VxHxWdq, VxHxWxLx, VxWx, VxWdq, VxWxIb, VxWxXmm0, WxVx, WxVxIb, HxWxIb, HxUxIb, UxIb, VxMx, MxVx, VxHxMx, VxHxMxIb, MxHxVx, VxHxUx, VxHxUxIb, UxHxVx, VxUx, UxVx, VxEv, EvVx, VxHxEvIb, EvVxIb, VxRv, GvUx, GvUxIb, VxVm, VxVmHx, VmVx, KxHxWx, KxHxWxIb, KxUx, VxKx, KxKx, KxKxKx, KxKxIb, KxKm, MxKx, KxRv, GvKx}
+use Rattle.row_table.specs.declared.kinds.Operands.TheVariants.{Implied, OpcodeReg, RaxOpcodeReg, OpcodeRegIb, OpcodeRegIv, Ib, Iw, Iz, Jb, Jz, AlIb, RaxIz, AlOb, RaxOv, ObAl, OvRax, Eb, Ev, EbGb, EvGv, GbEb, GvEv, GvEb, GvEw, GvEd, EbIb, EvIb, EvIz, EbOne, EvOne, EbCl, EvCl, GvEvIb, GvEvIz, EvGvIb, EvGvCl, GvM, MvGv, M as MemoryAlone, R as RegisterAlone, ByteD0, GyByEy, GyEyBy, ByEy, GyEyIb, VxHxWx, VxHxWxIb, VxHxWdq, VxHxWxLx, VxWx, VxWdq, VxWxIb, VxWxXmm0, WxVx, WxVxIb, HxWxIb, HxUxIb, UxIb, VxMx, VxMxIb, MxVx, VxHxMx, VxHxMxIb, MxHxVx, VxHxUx, VxHxUxIb, UxHxVx, VxUx, VxUxIb, UxVx, VxEv, EvVx, VxEvIb, VxHxEvIb, EvVxIb, VxRv, GvUx, GvUxIb, VxVm, VxVmHx, VmVx, KxHxWx, KxHxWxIb, KxUx, VxKx, KxKx, KxKxKx, KxKxIb, KxKm, MxKx, KxRv, GvKx}
 use Rattle.row_table.specs.declared.kinds.Spot.{Spot}
 use Rattle.row_table.specs.declared.kinds.Spot.TheVariants.{Absent, Reg, Rm, Vvvv, OpcodeReg as InOpcode, Rax, Cl, Memory as InMemory, VectorMemory, Offset, Immediate, Relative, One as NumberOne, VectorReg, VectorRm, VectorVvvv, VectorImmediate, Xmm0, OpmaskReg, OpmaskRm, OpmaskVvvv}
 use Rattle.row_table.specs.declared.kinds.Extent.{Extent}
@@ -135,6 +135,7 @@ letters HxWxIb = H x ∷ W x ∷ I b ∷ []
 letters HxUxIb = H x ∷ U x ∷ I b ∷ []
 letters UxIb = U x ∷ I b ∷ []
 letters VxMx = V x ∷ M x ∷ []
+letters VxMxIb = V x ∷ M x ∷ I b ∷ []
 letters MxVx = M x ∷ V x ∷ []
 letters VxHxMx = V x ∷ H x ∷ M x ∷ []
 letters VxHxMxIb = V x ∷ H x ∷ M x ∷ I b ∷ []
@@ -143,9 +144,11 @@ letters VxHxUx = V x ∷ H x ∷ U x ∷ []
 letters VxHxUxIb = V x ∷ H x ∷ U x ∷ I b ∷ []
 letters UxHxVx = U x ∷ H x ∷ V x ∷ []
 letters VxUx = V x ∷ U x ∷ []
+letters VxUxIb = V x ∷ U x ∷ I b ∷ []
 letters UxVx = U x ∷ V x ∷ []
 letters VxEv = V x ∷ E y ∷ []
 letters EvVx = E y ∷ V x ∷ []
+letters VxEvIb = V x ∷ E y ∷ I b ∷ []
 letters VxHxEvIb = V x ∷ H x ∷ E y ∷ I b ∷ []
 letters EvVxIb = E y ∷ V x ∷ I b ∷ []
 letters VxRv = V x ∷ R y ∷ []

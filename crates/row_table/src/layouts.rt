@@ -22,7 +22,7 @@ macro_rules! layouts {
 /// What each list of operands says, in the order of `Operands`: its four places, whether ModRM follows the
 /// opcode, the size of the immediate as a code, and which form of ModRM is taken.
 #[rattlefmt::skip]
-static LAYOUTS: [Layout; 89] = layouts![
+static LAYOUTS: [Layout; 92] = layouts![
     (Implied: Absent Own, Absent Own, Absent Own, Absent Own; false 0 Form::Either),
     (OpcodeReg: OpcodeReg Sized, Absent Own, Absent Own, Absent Own; false 0 Form::Either),
     (RaxOpcodeReg: Rax Sized, OpcodeReg Sized, Absent Own, Absent Own; false 0 Form::Either),
@@ -82,6 +82,7 @@ static LAYOUTS: [Layout; 89] = layouts![
     (HxUxIb: VectorVvvv Vector, VectorRm Vector, Immediate Byte, Absent Own; true 1 Form::Register),
     (UxIb: VectorRm Vector, Immediate Byte, Absent Own, Absent Own; true 1 Form::Register),
     (VxMx: VectorReg Vector, Memory Vector, Absent Own, Absent Own; true 0 Form::Memory),
+    (VxMxIb: VectorReg Vector, Memory Vector, Immediate Byte, Absent Own; true 1 Form::Memory),
     (MxVx: Memory Vector, VectorReg Vector, Absent Own, Absent Own; true 0 Form::Memory),
     (VxHxMx: VectorReg Vector, VectorVvvv Vector, Memory Vector, Absent Own; true 0 Form::Memory),
     (VxHxMxIb: VectorReg Vector, VectorVvvv Vector, Memory Vector, Immediate Byte; true 1 Form::Memory),
@@ -90,9 +91,11 @@ static LAYOUTS: [Layout; 89] = layouts![
     (VxHxUxIb: VectorReg Vector, VectorVvvv Vector, VectorRm Vector, Immediate Byte; true 1 Form::Register),
     (UxHxVx: VectorRm Vector, VectorVvvv Vector, VectorReg Vector, Absent Own; true 0 Form::Register),
     (VxUx: VectorReg Vector, VectorRm Vector, Absent Own, Absent Own; true 0 Form::Register),
+    (VxUxIb: VectorReg Vector, VectorRm Vector, Immediate Byte, Absent Own; true 1 Form::Register),
     (UxVx: VectorRm Vector, VectorReg Vector, Absent Own, Absent Own; true 0 Form::Register),
     (VxEv: VectorReg Vector, Rm Scalar, Absent Own, Absent Own; true 0 Form::Either),
     (EvVx: Rm Scalar, VectorReg Vector, Absent Own, Absent Own; true 0 Form::Either),
+    (VxEvIb: VectorReg Vector, Rm Scalar, Immediate Byte, Absent Own; true 1 Form::Either),
     (VxHxEvIb: VectorReg Vector, VectorVvvv Vector, Rm Scalar, Immediate Byte; true 1 Form::Either),
     (EvVxIb: Rm Scalar, VectorReg Vector, Immediate Byte, Absent Own; true 1 Form::Either),
     (VxRv: VectorReg Vector, Rm Scalar, Absent Own, Absent Own; true 0 Form::Register),
