@@ -12,7 +12,7 @@ LOCKS = "Xchg Xadd Cmpxchg Cmpxchg8b Add Or Adc Sbb And Sub Xor Not Neg Inc Dec 
 TO_MEMORY = "Eb Ev EbGb EvGv EbIb EvIb EvIz M".split()
 
 # The operands that need memory in ModRM.r/m, or a register.
-MEMORY_ONLY = "M GvM MvGv VxMx MxVx VxHxMx MxHxVx VxVm VxVmHx VmVx MxKx".split()
+MEMORY_ONLY = "M GvM MvGv VxMx VxMxIb MxVx VxHxMx VxHxMxIb MxHxVx VxVm VxVmHx VmVx MxKx".split()
 REGISTER_ONLY = "R HxUxIb UxIb VxHxUx VxHxUxIb UxHxVx VxUx VxUxIb UxVx VxRv GvUx GvUxIb KxUx VxKx KxKx KxKxKx KxKxIb KxRv GvKx".split()
 
 # The operands whose first may be in memory, of those on vectors.

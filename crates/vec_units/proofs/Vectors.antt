@@ -8,7 +8,7 @@ use Rattle.num_lanes.specs.Lane.{lane_of, LanesAre, joined}
 use Rattle.num_lanes.proofs.Joins.{joined-same}
 use Rattle.num_lanes.proofs.LaneLemmas.{below_lane}
 use Rattle.vec_units.specs.declared.forms.Form.{Form}
-use Rattle.vec_units.specs.Results.{part, computed_lane, left_out, placed_lane, vector_result, signs_in, mask_of}
+use Rattle.vec_units.specs.Results.{part, computed_lane, left_out, placed_lane, taken_by, vector_result, signs_in, mask_of}
 use Rattle.vec_units.proofs.BitLemmas.{bits-same}
 
 -- a lane of the vectors is one of the register
@@ -44,20 +44,20 @@ lane-computed f lanes dest first second mask i long within are h =
 
 vector-own : (f : Form) (lanes dest first second : List ℕ) (mask : ℕ) → f.len ≤ length lanes → f.lanes * f.width ≤ f.len
     → LanesAre f.width (part f lanes) (computed_lane f dest first second mask)
-    → joined f.width (64 / f.width) (placed_lane f.width f (lane_of f.width lanes) (lane_of f.width dest) (lane_of f.width first) mask)
+    → joined f.width (64 / f.width) (placed_lane f.width f (lane_of f.width lanes) (lane_of f.width dest) (lane_of f.width first) (taken_by f mask))
     ≡ vector_result f dest first second mask
 unfolding vector_result
 vector-own f lanes dest first second mask long within are =
     joined-same f.width (64 / f.width) _ _
     (λ i h. placed-same f.width f (lane_of f.width lanes) (computed_lane f dest first second mask) (lane_of f.width dest)
-    (lane_of f.width first) mask i (lane-computed f lanes dest first second mask i long within are))
+    (lane_of f.width first) (taken_by f mask) i (lane-computed f lanes dest first second mask i long within are))
 
 -- the register of the lanes that were computed
 pub vector_is : (f : Form) (w : ℕ) (lanes dest first second : List ℕ) (mask : ℕ) → f.width ≡ w → f.len ≤ length lanes
     → f.lanes * f.width ≤ f.len → LanesAre f.width (part f lanes) (computed_lane f dest first second mask)
-    → joined w (64 / w) (placed_lane w f (lane_of w lanes) (lane_of w dest) (lane_of w first) mask) ≡ vector_result f dest first second mask
+    → joined w (64 / w) (placed_lane w f (lane_of w lanes) (lane_of w dest) (lane_of w first) (taken_by f mask)) ≡ vector_result f dest first second mask
 vector_is f w lanes dest first second mask is long within are =
-    subst (λ (n : ℕ). joined n (64 / n) (placed_lane n f (lane_of n lanes) (lane_of n dest) (lane_of n first) mask) ≡ vector_result f dest first second mask)
+    subst (λ (n : ℕ). joined n (64 / n) (placed_lane n f (lane_of n lanes) (lane_of n dest) (lane_of n first) (taken_by f mask)) ≡ vector_result f dest first second mask)
     is (vector-own f lanes dest first second mask long within are)
 
 -- the mask of the lanes that were computed

@@ -1,23 +1,42 @@
 -- What of a row and its fields a vector result depends on.
-use Rattle.std.specs.Prelude.{ℕ, ◌*◌, ◌/◌, ◌%◌, ◌≤◌, ◌==◌, Bool, true, false, if◌then◌else◌, IsTrue, Option, Some, None, slice_get}
+use Rattle.std.specs.Prelude.{ℕ, ◌*◌, ◌/◌, ◌%◌, ◌≤◌, ◌==◌, min, Bool, true, false, not, ◌&&◌, if◌then◌else◌, IsTrue, Option, Some, None, slice_get}
 use Rattle.gpr_flags.specs.Registers.{is_size}
 use Rattle.row_table.specs.declared.kinds.Decoded.{Decoded}
 use Rattle.row_table.specs.declared.kinds.Class.{Class}
 use Rattle.row_table.specs.declared.kinds.Class.TheVariants.{Legacy, Vex, Evex}
+use Rattle.row_table.specs.declared.kinds.MaskKind.{MaskKind}
+use Rattle.row_table.specs.declared.kinds.MaskKind.TheVariants.{NoMask, MergeZero, ToMask, Blend, Compress, Expand, Required, Signs, SignsZero, Select}
 use Rattle.row_table.specs.declared.kinds.Row.{Row}
 use Rattle.row_table.specs.declared.kinds.Fields.{Fields}
 use Rattle.row_table.specs.Rows.{rows}
+use Rattle.row_table.specs.Spelling.{writes_rm}
+use Rattle.row_table.specs.Tuples.{vector_bytes, tuple_bytes}
 use Rattle.num_lanes.specs.Lane.{IsLength}
 use Rattle.vec_units.specs.declared.forms.Form.{Form}
 use Rattle.vec_units.specs.Compute.{is_vector}
 
--- the bytes of the vectors, by the length field (SDM volume 2, 2.3.6 and 2.7.1)
-abbrev pub len_of : (l : ℕ) → ℕ
-len_of l = if l == 0 then 16 else if l == 1 then 32 else 64
-
 -- a row whose vectors have 128 bits whatever L is takes no length from it (SDM volume 2, 3.1.1.2, LIG)
 abbrev pub vector_len : Row → (l : ℕ) → ℕ
-vector_len row l = if row.lengths == 8 then 16 else len_of l
+vector_len row l = if row.lengths == 8 then 16 else vector_bytes l
+
+-- VPCOMPRESS, whose operand in memory has no fixed length
+abbrev pub is_compressed : MaskKind → Bool
+is_compressed Compress = true
+is_compressed NoMask = false
+is_compressed MergeZero = false
+is_compressed ToMask = false
+is_compressed Blend = false
+is_compressed Expand = false
+is_compressed Required = false
+is_compressed Signs = false
+is_compressed SignsZero = false
+is_compressed Select = false
+
+-- the bytes that the result has: those of the vectors, but where the destination is in ModRM.r/m, as a part that is extracted or lanes
+-- that are narrowed, those of its tuple, if these are fewer
+abbrev pub result_bytes : Row → (len : ℕ) → ℕ
+result_bytes row len =
+    if writes_rm row.operands && not (is_compressed row.mask) then min (tuple_bytes row.tuple (row.width / 8) len) len else len
 
 -- legacy rows leave the bytes above the vectors as they were (SDM volume 1, 14.1.3)
 abbrev pub is_legacy : Class → Bool
@@ -29,7 +48,7 @@ unfoldable pub form_of : Row → Fields → Form
 form_of row f = record {
   op = row.op;
   width = row.width / 8;
-  lanes = vector_len row f.l / (row.width / 8);
+  lanes = result_bytes row (vector_len row f.l) / (row.width / 8);
   len = vector_len row f.l;
   imm = f.imm % 256;
   masking = row.mask;

@@ -1,10 +1,10 @@
 -- What a vector instruction gives (SDM volume 2, 2.7.6, and the pages of the instructions).
-use Rattle.std.specs.Prelude.{ℕ, zero, suc, ◌+◌, ◌-◌, ◌*◌, ◌/◌, ◌^◌, ◌==◌, Bool, true, false, ◌&&◌, if◌then◌else◌, nat_lt, List, slice_range, slice_get, bit_and, Option}
+use Rattle.std.specs.Prelude.{ℕ, zero, suc, ◌+◌, ◌-◌, ◌*◌, ◌/◌, ◌%◌, ◌^◌, ◌==◌, Bool, true, false, ◌&&◌, ◌||◌, if◌then◌else◌, nat_lt, List, slice_range, slice_get, bit_and, Option}
 use Rattle.std.specs.Option.{option_map}
 use Rattle.row_table.specs.declared.kinds.Row.{Row}
 use Rattle.row_table.specs.declared.kinds.Decoded.{Decoded}
 use Rattle.row_table.specs.declared.kinds.MaskKind.{MaskKind}
-use Rattle.row_table.specs.declared.kinds.MaskKind.TheVariants.{NoMask, MergeZero, ToMask, Blend, Compress, Required, Signs, SignsZero}
+use Rattle.row_table.specs.declared.kinds.MaskKind.TheVariants.{NoMask, MergeZero, ToMask, Blend, Compress, Expand, Required, Signs, SignsZero, Select}
 use Rattle.row_table.specs.declared.operations.Op.{Op}
 use Rattle.row_table.specs.declared.operations.Op.TheVariants.{Core, Gpr, Bit, String, Lane, Cross, Width, Mac, Mask, Vector, Gather, Xsave}
 use Rattle.row_table.specs.declared.operations.VectorOp.TheVariants.{Ptest, Pmovmskb, Movmskp}
@@ -12,6 +12,7 @@ use Rattle.row_table.specs.Rows.{rows}
 use Rattle.gpr_flags.specs.Numbers.{has_bit, is_negative}
 use Rattle.num_lanes.specs.Lane.{lane_of, joined}
 use Rattle.vec_units.specs.declared.forms.Form.{Form}
+use Rattle.width_kernels.specs.WidthOps.{masked_below}
 use Rattle.vec_units.specs.Compute.{lane_by}
 use Rattle.vec_units.specs.Form.{form_of}
 
@@ -36,8 +37,31 @@ left_out NoMask zeroing old first = merged zeroing old
 left_out MergeZero zeroing old first = merged zeroing old
 left_out ToMask zeroing old first = merged zeroing old
 left_out Compress zeroing old first = merged zeroing old
+left_out Expand zeroing old first = merged zeroing old
 left_out Required zeroing old first = merged zeroing old
 left_out Signs zeroing old first = merged zeroing old
+left_out Select zeroing old first = merged zeroing old
+
+-- the lowest lanes, as many as a mask has
+abbrev pub packed : (lanes mask : ℕ) → ℕ
+packed lanes mask = 2 ^ masked_below mask lanes - 1
+
+-- which lanes are those that are computed: those that the mask has, but of VPCOMPRESS the lowest, as many as the mask has, and all where
+-- the mask chooses between the sources
+abbrev pub taken : MaskKind → (lanes mask : ℕ) → ℕ
+taken Compress lanes mask = packed lanes mask
+taken Select lanes mask = 2 ^ 64 - 1
+taken NoMask lanes mask = mask
+taken MergeZero lanes mask = mask
+taken ToMask lanes mask = mask
+taken Blend lanes mask = mask
+taken Expand lanes mask = mask
+taken Required lanes mask = mask
+taken Signs lanes mask = mask
+taken SignsZero lanes mask = mask
+
+abbrev pub taken_by : Form → (mask : ℕ) → ℕ
+taken_by f mask = taken f.masking f.lanes mask
 
 -- lane i of a register of lanes of w bytes, by the lanes that are computed and those of the destination and of the first operand:
 -- above the result's lanes are zeros, but above the vectors of a legacy row what stood there
@@ -51,7 +75,7 @@ placed_lane w f computed dest first mask i =
 unfoldable pub vector_result : Form → (dest first second : List ℕ) → (mask : ℕ) → List ℕ
 vector_result f dest first second mask =
     joined f.width (64 / f.width)
-    (placed_lane f.width f (computed_lane f dest first second mask) (lane_of f.width dest) (lane_of f.width first) mask)
+    (placed_lane f.width f (computed_lane f dest first second mask) (lane_of f.width dest) (lane_of f.width first) (taken_by f mask))
 
 -- ---- masks of bits
 -- bit i says whether i passes a test, for each i below n
@@ -70,6 +94,20 @@ sign_mask f register = signs_in f.width (lane_of f.width register) (2 ^ 64 - 1) 
 -- of the lanes that are computed; where lanes are compared, the sign says whether the comparison holds
 unfoldable pub mask_of : Form → (dest first second : List ℕ) → (mask : ℕ) → ℕ
 mask_of f dest first second mask = signs_in f.width (computed_lane f dest first second mask) mask f.lanes
+
+-- ---- which elements of a source feed lanes
+-- whether one of the first n numbers passes a test
+unfoldable pub any_below : (ℕ → Bool) → (n : ℕ) → Bool
+any_below test zero = false
+any_below test (suc n) = any_below test n || test n
+
+-- of n elements, element j is that of the lanes j, j + n, j + 2 n and so on: whether one of them is masked in
+abbrev pub is_fed : (n lanes mask j : ℕ) → Bool
+is_fed n lanes mask j = any_below (λ i. i % n == j && has_bit mask i) lanes
+
+-- the elements that feed lanes that are masked in, a bit an element; where each lane has its own, the mask says it
+unfoldable pub fed : (n lanes mask : ℕ) → ℕ
+fed n lanes mask = if n == lanes then mask else bits_where (is_fed n lanes mask) n
 
 -- ---- PTEST (SDM volume 2, PTEST)
 -- whether the bits of lanes of 64 bits have none in common with the register's, or none beyond them

@@ -3,7 +3,7 @@ ghost use Rattle.std.specs.Prelude.{◌≡◌, ◌*◌, ◌/◌, ◌+◌, ◌<�
 ghost use Rattle.gpr_flags.specs.Registers.{is_size};
 ghost use Rattle.gpr_flags.specs.Numbers.{has_bit as has_bit_of, is_negative as is_negative_of};
 ghost use Rattle.num_lanes.specs.Lane.{lane_of};
-ghost use Rattle.vec_units.specs.Results.{signs_in, has_none as has_none_of, have_none as have_none_of};
+ghost use Rattle.vec_units.specs.Results.{signs_in, is_fed as is_fed_of, fed as fed_of, has_none as has_none_of, have_none as have_none_of};
 
 use gpr_flags::{has_bit, is_negative};
 use num_lanes::{Vec64, get_lane};
@@ -38,6 +38,38 @@ pub(crate) fn mask_bits<const W: usize>(computed: &Vec64, mask: u64, lanes: usiz
     let mut value = 0;
     for lane in 0..lanes {
         value = with_bit(value, lane, is_set::<W>(computed, mask, lane));
+    }
+    value
+}
+
+/// Whether an element, one of `n`, is that of a lane that is masked in.
+#[tactic(auto, unfolding(crate::specs::Results::any_below))]
+fn is_fed(n: u8, lanes: u8, mask: u64, element: u8) -> bool
+    requires some { 0 < n }
+    requires lanes { lanes ≤ 64 }
+    ensures { result ≡ is_fed_of n lanes mask element }
+{
+    let mut any = false;
+    for lane in 0..lanes {
+        any = any || lane % n == element && has_bit(mask, u32::from(lane));
+    }
+    any
+}
+
+/// Of `n` elements those that feed lanes that are masked in, a bit an element: element j is that of the lanes j, j + n, j + 2 n and so on.
+#[tactic(auto, unfolding(crate::specs::Results::fed))]
+pub fn fed(n: u8, lanes: u8, mask: u64) -> u64
+    requires some { 0 < n }
+    requires most { n ≤ 64 }
+    requires lanes { lanes ≤ 64 }
+    ensures { result ≡ fed_of n lanes mask }
+{
+    if n == lanes {
+        return mask;
+    }
+    let mut value = 0;
+    for element in 0..n {
+        value = with_bit(value, usize::from(element), is_fed(n, lanes, mask, element));
     }
     value
 }

@@ -1,8 +1,9 @@
 //! What of a row and its fields a vector result depends on.
-ghost use Rattle.std.specs.Prelude.{◌≡◌};
-ghost use Rattle.vec_units.specs.Form.{form_of, FormFits, IsVectorRow, len_of, vector_len as vector_len_of, is_legacy as is_legacy_class};
+ghost use Rattle.std.specs.Prelude.{◌≡◌, ◌≤◌};
+ghost use Rattle.num_lanes.specs.Lane.{IsLength};
+ghost use Rattle.vec_units.specs.Form.{form_of, FormFits, IsVectorRow, vector_len as vector_len_of, is_legacy as is_legacy_class, is_compressed as is_compressed_kind, result_bytes as result_bytes_of};
 
-use row_table::{Class, Fields, MaskKind, Op, Row};
+use row_table::{Class, Fields, MaskKind, Op, Row, does_write_rm, tuple_bytes, vector_bytes};
 
 /// What of a row and its fields a vector result depends on.
 #[derive(Clone, Copy)]
@@ -21,22 +22,12 @@ pub struct Form {
     pub keeps: bool,
 }
 
-/// The bytes of the vectors, by the length field.
-fn len_for(l: u8) -> u8
-    ensures { result ≡ len_of l }
-{
-    match l {
-        0 => 16,
-        1 => 32,
-        _ => 64,
-    }
-}
-
 /// The bytes of the vectors of a row: of 128 bits where it ignores the length field.
 fn vector_len(row: &Row, l: u8) -> u8
-    ensures { result ≡ vector_len_of row.now l }
+    ensures value { result ≡ vector_len_of row.now l }
+    ensures length { IsLength result }
 {
-    if row.lengths == 8 { 16 } else { len_for(l) }
+    if row.lengths == 8 { 16 } else { vector_bytes(l) }
 }
 
 /// Whether the bytes above the vectors stay.
@@ -46,6 +37,36 @@ fn is_legacy(class: Class) -> bool
     match class {
         Class::Legacy => true,
         Class::Vex | Class::Evex => false,
+    }
+}
+
+/// Whether an operation is VPCOMPRESS.
+fn is_compressed(kind: MaskKind) -> bool
+    ensures { result ≡ is_compressed_kind kind }
+{
+    match kind {
+        MaskKind::Compress => true,
+        MaskKind::NoMask
+        | MaskKind::MergeZero
+        | MaskKind::ToMask
+        | MaskKind::Blend
+        | MaskKind::Expand
+        | MaskKind::Required
+        | MaskKind::Signs
+        | MaskKind::SignsZero
+        | MaskKind::Select => false,
+    }
+}
+
+/// The bytes that the result of a row has, where its vectors have `len`.
+fn result_bytes(row: &Row, len: u8) -> u8
+    ensures value { result ≡ result_bytes_of row.now len }
+    ensures most { result ≤ len }
+{
+    if does_write_rm(row.operands) && !is_compressed(row.mask) {
+        tuple_bytes(row.tuple, row.width / 8, len).min(len)
+    } else {
+        len
     }
 }
 
@@ -61,7 +82,7 @@ pub fn form_for(row: &Row, fields: &Fields) -> Form
     Form {
         op: row.op,
         width,
-        lanes: len / width,
+        lanes: result_bytes(row, len) / width,
         len,
         imm: (fields.imm % 256) as u8,
         masking: row.mask,

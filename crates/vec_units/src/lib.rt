@@ -7,7 +7,9 @@ mod forms;
 mod masked;
 mod results;
 
+pub use bit_masks::fed;
 pub use forms::{Form, form_for};
+pub use masked::{packed, taken};
 pub use results::{bits, mask_result, result, signs, vector};
 
 #[cfg(test)]

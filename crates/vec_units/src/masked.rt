@@ -3,10 +3,10 @@ ghost use Rattle.std.specs.Prelude.{◌≡◌, ◌*◌, ◌/◌, ◌+◌, ◌<�
 ghost use Rattle.gpr_flags.specs.Registers.{is_size};
 ghost use Rattle.num_lanes.specs.Lane.{lane_of, joined};
 ghost use Rattle.vec_units.specs.Form.{FormFits};
-ghost use Rattle.vec_units.specs.Results.{merged as merged_of, left_out as left_out_of, placed_lane};
+ghost use Rattle.vec_units.specs.Results.{merged as merged_of, left_out as left_out_of, packed as packed_of, taken_by, placed_lane};
 
 use crate::forms::Form;
-use gpr_flags::has_bit;
+use gpr_flags::{has_bit, low, ones};
 use num_lanes::{Vec64, get_lane, set_lane};
 use row_table::MaskKind;
 
@@ -29,8 +29,37 @@ fn left_out(masking: MaskKind, zeroing: bool, old: u64, first: u64) -> u64
         | MaskKind::MergeZero
         | MaskKind::ToMask
         | MaskKind::Compress
+        | MaskKind::Expand
         | MaskKind::Required
-        | MaskKind::Signs => merged(zeroing, old),
+        | MaskKind::Signs
+        | MaskKind::Select => merged(zeroing, old),
+    }
+}
+
+/// The lowest lanes, as many as a mask has.
+pub fn packed(lanes: u8, mask: u64) -> u64
+    requires { lanes ≤ 64 }
+    ensures { result ≡ packed_of lanes mask }
+{
+    ones(low(u32::from(lanes), u128::from(mask)).count_ones())
+}
+
+/// Which lanes of the result are those that are computed.
+pub fn taken(f: &Form, mask: u64) -> u64
+    requires { FormFits f.now }
+    ensures { result ≡ taken_by f.now mask }
+{
+    match f.masking {
+        MaskKind::Compress => packed(f.lanes, mask),
+        MaskKind::Select => u64::MAX,
+        MaskKind::NoMask
+        | MaskKind::MergeZero
+        | MaskKind::ToMask
+        | MaskKind::Blend
+        | MaskKind::Expand
+        | MaskKind::Required
+        | MaskKind::Signs
+        | MaskKind::SignsZero => mask,
     }
 }
 

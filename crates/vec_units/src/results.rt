@@ -7,7 +7,7 @@ ghost use Rattle.vec_units.specs.Results.{vector_result, signs_in, sign_mask, ma
 use crate::bit_masks::{have_none, mask_bits, one_of};
 use crate::computing::compute;
 use crate::forms::{Form, form_for};
-use crate::masked::register;
+use crate::masked::{register, taken};
 use num_lanes::Vec64;
 use row_table::{Decoded, Op, VectorOp, row};
 
@@ -38,11 +38,12 @@ pub fn vector(f: &Form, dest: &Vec64, first: &Vec64, second: &Vec64, mask: u64) 
     ensures { result ≡ vector_result f.now dest.now first.now second.now mask }
 {
     let lanes = computed(f, dest, first, second, mask);
+    let taken = taken(f, mask);
     match f.width {
-        1 => register::<1>(f, &lanes, dest, first, mask),
-        2 => register::<2>(f, &lanes, dest, first, mask),
-        4 => register::<4>(f, &lanes, dest, first, mask),
-        _ => register::<8>(f, &lanes, dest, first, mask),
+        1 => register::<1>(f, &lanes, dest, first, taken),
+        2 => register::<2>(f, &lanes, dest, first, taken),
+        4 => register::<4>(f, &lanes, dest, first, taken),
+        _ => register::<8>(f, &lanes, dest, first, taken),
     }
 }
 
