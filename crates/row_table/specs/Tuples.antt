@@ -26,3 +26,19 @@ tuple_bytes T1S element vector = element
 tuple_bytes T2 element vector = 2 * element
 tuple_bytes T4 element vector = 4 * element
 tuple_bytes T8 element vector = 8 * element
+
+-- the bytes of an element in memory of a source, by those of a lane: in tuples of a half, a quarter or an eighth of a vector there
+-- are as many elements as lanes, which are widened (table 2-35)
+abbrev pub source_width : Tuple → (width : ℕ) → ℕ
+source_width NoTuple width = width
+source_width Full width = width
+source_width Half width = width / 2
+source_width FullMem width = width
+source_width HalfMem width = width / 2
+source_width QuarterMem width = width / 4
+source_width EighthMem width = width / 8
+source_width Mem128 width = width
+source_width T1S width = width
+source_width T2 width = width
+source_width T4 width = width
+source_width T8 width = width

@@ -26,7 +26,7 @@ pub use spelling::{
     are_bytes_there, do_opmasks_fit, do_registers_fit, does_write_rm, is_memory, is_vvvv_used,
     is_without_evex, is_without_prefixes,
 };
-pub use tuples::{element_bytes, tuple_bytes, vector_bytes};
+pub use tuples::{element_bytes, source_width, tuple_bytes, vector_bytes};
 
 #[cfg(test)]
 mod tests;

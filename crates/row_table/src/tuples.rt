@@ -1,6 +1,6 @@
 //! How many bytes an operand in memory has.
 ghost use Rattle.std.specs.Prelude.{◌≡◌, ◌<◌, ◌≤◌};
-ghost use Rattle.row_table.specs.Tuples.{vector_bytes as vector_bytes_spec, element_bytes as element_bytes_spec, tuple_bytes as tuple_bytes_spec};
+ghost use Rattle.row_table.specs.Tuples.{vector_bytes as vector_bytes_spec, element_bytes as element_bytes_spec, tuple_bytes as tuple_bytes_spec, source_width as source_width_spec};
 
 use crate::kinds::Tuple;
 
@@ -38,5 +38,25 @@ pub fn tuple_bytes(tuple: Tuple, element: u8, vector: u8) -> u8
         Tuple::T2 => 2 * element,
         Tuple::T4 => 4 * element,
         Tuple::T8 => 8 * element,
+    }
+}
+
+/// The bytes of an element in memory of a source, by those of a lane.
+pub fn source_width(tuple: Tuple, width: u8) -> u8
+    ensures value { result ≡ source_width_spec tuple width }
+    ensures most { result ≤ width }
+{
+    match tuple {
+        Tuple::Half | Tuple::HalfMem => width / 2,
+        Tuple::QuarterMem => width / 4,
+        Tuple::EighthMem => width / 8,
+        Tuple::NoTuple
+        | Tuple::Full
+        | Tuple::FullMem
+        | Tuple::Mem128
+        | Tuple::T1S
+        | Tuple::T2
+        | Tuple::T4
+        | Tuple::T8 => width,
     }
 }

@@ -18,7 +18,7 @@ use Rattle.num_lanes.proofs.Joins.{joined-same}
 use Rattle.masked_memory.specs.Lanes.{lane_place, lane_access, lane_accesses, loaded_lane, loaded, lane_stored, stored}
 use Rattle.vec_units.specs.Results.{vector_result, bits_of}
 use Rattle.vec_step.specs.declared.kinds.Source.{Source}
-use Rattle.vec_step.specs.declared.kinds.Source.TheVariants.{Register as FromRegister, General as FromGeneral, Count, Memory as FromMemory, Broadcast, Whole, Nothing}
+use Rattle.vec_step.specs.declared.kinds.Source.TheVariants.{Register as FromRegister, General as FromGeneral, Opmask as FromOpmask, Count, Memory as FromMemory, Broadcast, Whole, Nothing}
 use Rattle.vec_step.specs.declared.kinds.Target.{Target}
 use Rattle.vec_step.specs.declared.kinds.Target.TheVariants.{Register as ToRegister, Memory as ToMemory, Mask as ToMask, General as ToGeneral, Flags as ToFlags, Nowhere}
 use Rattle.vec_step.specs.declared.kinds.VectorPlan.{VectorPlan}
@@ -93,6 +93,7 @@ operand_same : (source : Source) (gprs : List ℕ) (e : Extended) (byte other : 
 unfolding operand_of
 operand_same (FromRegister n) gprs e byte other same = refl
 operand_same (FromGeneral n) gprs e byte other same = refl
+operand_same (FromOpmask n) gprs e byte other same = refl
 operand_same (Count n) gprs e byte other same = refl
 operand_same (FromMemory m) gprs e byte other same = loaded_same byte other Read m.addr m.width m.lanes m.mask (λ _. 0) same
 operand_same (Broadcast m) gprs e byte other same =

@@ -16,15 +16,15 @@ use Rattle.row_table.specs.declared.kinds.Spot.TheVariants.{Rm, Memory as InMemo
 use Rattle.row_table.specs.Letters.{layout_of}
 use Rattle.masked_memory.specs.Lanes.{lane_place, lane_access, lane_accesses}
 use Rattle.vec_units.specs.declared.forms.Form.{Form}
-use Rattle.vec_units.specs.Form.{form_of}
+use Rattle.vec_units.specs.Form.{form_of, is_expanded}
 use Rattle.vec_step.specs.declared.kinds.Places.{Places}
 use Rattle.vec_step.specs.declared.kinds.Span.{Span}
 use Rattle.vec_step.specs.declared.kinds.Source.{Source}
-use Rattle.vec_step.specs.declared.kinds.Source.TheVariants.{Register as FromRegister, General as FromGeneral, Count, Memory as FromMemory, Broadcast, Whole, Nothing}
+use Rattle.vec_step.specs.declared.kinds.Source.TheVariants.{Register as FromRegister, General as FromGeneral, Opmask as FromOpmask, Count, Memory as FromMemory, Broadcast, Whole, Nothing}
 use Rattle.vec_step.specs.declared.kinds.Target.{Target}
 use Rattle.vec_step.specs.declared.kinds.Target.TheVariants.{Register as ToRegister, Memory as ToMemory, Mask as ToMask, General as ToGeneral, Flags as ToFlags, Nowhere}
 use Rattle.vec_step.specs.Fits.{PlanFits, SourceFits, TargetFits}
-use Rattle.vec_step.specs.Plan.{gives_flags, mask_in, has_two_sources, spots_of, vector_in, general_in, source_at, memory_source, source_or, source_in, first_in, memory_span, target_or, target_in, vector_plan, source_accesses, target_accesses, vector_access}
+use Rattle.vec_step.specs.Plan.{gives_flags, mask_in, has_two_sources, spots_of, vector_in, general_in, memory_bytes, element_of, packed_span, element_span, source_span, source_at, memory_source, source_or, source_in, first_in, memory_span, target_or, target_in, vector_plan, source_accesses, target_accesses, vector_access}
 
 -- ---- where the operands are
 -- an operand in memory is at this address
@@ -34,6 +34,7 @@ SourceAt addr (Broadcast m) = m.addr ≡ addr
 SourceAt addr (Whole other len) = other ≡ addr
 SourceAt addr (FromRegister n) = ⊤
 SourceAt addr (FromGeneral n) = ⊤
+SourceAt addr (FromOpmask n) = ⊤
 SourceAt addr (Count n) = ⊤
 SourceAt addr Nothing = ⊤
 
@@ -50,6 +51,10 @@ memory-at : (addr len : ℕ) (spread whole : Bool) (element m : Span) → elemen
 memory-at addr len true whole element m there is = there
 memory-at addr len false true element m there is = refl
 memory-at addr len false false element m there is = is
+
+span-at : (addr : ℕ) (b : Bool) (m n : Span) → m.addr ≡ addr → n.addr ≡ addr → (cond b m n).addr ≡ addr
+span-at addr true m n is there = is
+span-at addr false m n is there = there
 
 flags_or-at : (addr : ℕ) (flags : Bool) (target : Target) → TargetAt addr target → TargetAt addr (cond flags ToFlags target)
 flags_or-at addr true target is = tt
@@ -82,17 +87,19 @@ memory_source-at : (addr : ℕ) (row : Row) (fields : Fields) (f : Form) (mask :
     → ((a : ℕ) → memory ≡ Some a → a ≡ addr) → MemoryAt addr (memory_source row fields f mask memory)
 memory_source-at addr row fields f mask None is = tt
 memory_source-at addr row fields f mask (Some a) is =
-    subst (λ (x : ℕ). SourceAt addr (source_at row fields f mask x)) (sym (is a refl)) (memory-at addr _ fields.bc row.whole _ _ refl refl)
+    subst (λ (x : ℕ). SourceAt addr (source_at row fields f mask x)) (sym (is a refl))
+    (memory-at addr (memory_bytes row f) fields.bc row.whole (element_of row fields f mask addr) (source_span row f mask addr) refl
+    (span-at addr (is_expanded row.mask) (packed_span f mask addr) (element_span row f mask addr) refl refl))
 
 -- the same of where the result goes
 abbrev LanesAt : ℕ → Option Span → Type 0
 LanesAt addr None = ⊤
 LanesAt addr (Some m) = m.addr ≡ addr
 
-memory_span-at : (addr : ℕ) (row : Row) (fields : Fields) (f : Form) (mask : ℕ) (memory : Option ℕ)
-    → ((a : ℕ) → memory ≡ Some a → a ≡ addr) → LanesAt addr (memory_span row fields f mask memory)
-memory_span-at addr row fields f mask None is = tt
-memory_span-at addr row fields f mask (Some a) is = is a refl
+memory_span-at : (addr : ℕ) (f : Form) (mask : ℕ) (memory : Option ℕ)
+    → ((a : ℕ) → memory ≡ Some a → a ≡ addr) → LanesAt addr (memory_span f mask memory)
+memory_span-at addr f mask None is = tt
+memory_span-at addr f mask (Some a) is = is a refl
 
 target_or-at : (addr : ℕ) (register : Target) (memory : Option Span) → TargetAt addr register → LanesAt addr memory
     → TargetAt addr (target_or register memory)
@@ -141,6 +148,7 @@ source_near (Whole other len) addr below fits is =
     (All-cons (IsNear addr) (record { kind = Read; addr = addr; len = len }) [] (λ at low high. inl (low, omega (arith, fits))) (All-nil (IsNear addr)))
 source_near (FromRegister n) addr below fits is = All-nil (IsNear addr)
 source_near (FromGeneral n) addr below fits is = All-nil (IsNear addr)
+source_near (FromOpmask n) addr below fits is = All-nil (IsNear addr)
 source_near (Count n) addr below fits is = All-nil (IsNear addr)
 source_near Nothing addr below fits is = All-nil (IsNear addr)
 
@@ -160,13 +168,13 @@ pub vector-near : (row : Row) (fields : Fields) (p : Places) (next : ℕ) (e : E
 unfolding vector_access vector_plan
 vector-near row fields p next e addr below is fits =
     let f = form_of row fields in
-    let mask = mask_in row fields f p e in
     let layout = layout_of row.operands in
+    let mask = mask_in layout row fields f p e in
     let spots = spots_of layout in
     let memory = memory_source row fields f mask p.memory in
     let there : MemoryAt addr memory = memory_source-at addr row fields f mask p.memory is in
-    let lanes = memory_span row fields f mask p.memory in
-    let lanes_there : LanesAt addr lanes = memory_span-at addr row fields f mask p.memory is in
+    let lanes = memory_span f mask p.memory in
+    let lanes_there : LanesAt addr lanes = memory_span-at addr f mask p.memory is in
     All-append (IsNear addr) _ _
     (All-append (IsNear addr) _ _
     (source_near _ addr below fits.first (first_in-at addr (has_two_sources layout) spots.first f memory p there))

@@ -4,7 +4,7 @@ use Rattle.gpr_flags.specs.Registers.{is_size}
 use Rattle.vec_units.specs.Form.{FormFits}
 use Rattle.vec_step.specs.declared.kinds.Span.{Span}
 use Rattle.vec_step.specs.declared.kinds.Source.{Source}
-use Rattle.vec_step.specs.declared.kinds.Source.TheVariants.{Register as FromRegister, General as FromGeneral, Count, Memory as FromMemory, Broadcast, Whole, Nothing}
+use Rattle.vec_step.specs.declared.kinds.Source.TheVariants.{Register as FromRegister, General as FromGeneral, Opmask as FromOpmask, Count, Memory as FromMemory, Broadcast, Whole, Nothing}
 use Rattle.vec_step.specs.declared.kinds.Target.{Target}
 use Rattle.vec_step.specs.declared.kinds.Target.TheVariants.{Register as ToRegister, Memory as ToMemory, Mask as ToMask, General as ToGeneral, Flags as ToFlags, Nowhere}
 use Rattle.vec_step.specs.declared.kinds.VectorPlan.{VectorPlan}
@@ -21,6 +21,7 @@ LanesFit (Some m) = SpanFits m
 abbrev pub SourceFits : Source → Type 0
 SourceFits (FromRegister n) = n < 32
 SourceFits (FromGeneral n) = n < 16
+SourceFits (FromOpmask n) = n < 8
 SourceFits (Count n) = ⊤
 SourceFits (FromMemory m) = SpanFits m
 SourceFits (Broadcast m) = SpanFits m

@@ -12,7 +12,7 @@ use Rattle.masked_memory.specs.Lanes.{loaded, stored}
 use Rattle.vec_units.specs.Results.{vector_result, bits_of}
 use Rattle.vec_step.specs.declared.kinds.Span.{Span}
 use Rattle.vec_step.specs.declared.kinds.Source.{Source}
-use Rattle.vec_step.specs.declared.kinds.Source.TheVariants.{Register as FromRegister, General as FromGeneral, Count, Memory as FromMemory, Broadcast, Whole, Nothing}
+use Rattle.vec_step.specs.declared.kinds.Source.TheVariants.{Register as FromRegister, General as FromGeneral, Opmask as FromOpmask, Count, Memory as FromMemory, Broadcast, Whole, Nothing}
 use Rattle.vec_step.specs.declared.kinds.Target.{Target}
 use Rattle.vec_step.specs.declared.kinds.Target.TheVariants.{Register as ToRegister, Memory as ToMemory, Mask as ToMask, General as ToGeneral, Flags as ToFlags, Nowhere}
 use Rattle.vec_step.specs.declared.kinds.VectorPlan.{VectorPlan}
@@ -33,6 +33,7 @@ spread w bytes = joined w (64 / w) (λ i. lane_of w bytes 0)
 unfoldable pub operand_of : Source → (gprs : List ℕ) → Extended → (ℕ → ℕ) → List ℕ
 operand_of (FromRegister n) gprs e byte = zmm_in e n
 operand_of (FromGeneral n) gprs e byte = padded (number_bytes 8 (slice_index gprs n)) 8
+operand_of (FromOpmask n) gprs e byte = padded (number_bytes 8 (slice_index e.k n)) 8
 operand_of (Count n) gprs e byte = padded (number_bytes 8 n) 8
 operand_of (FromMemory m) gprs e byte = span_value m byte
 operand_of (Broadcast m) gprs e byte = spread m.width (span_value m byte)

@@ -7,9 +7,8 @@ use Rattle.machine_state.specs.State.{Extended}
 use Rattle.row_table.specs.declared.kinds.Row.{Row}
 use Rattle.row_table.specs.declared.kinds.Fields.{Fields}
 use Rattle.row_table.specs.declared.kinds.MaskKind.{MaskKind}
-use Rattle.row_table.specs.declared.kinds.MaskKind.TheVariants.{NoMask, MergeZero, ToMask, Blend, Compress, Required, Signs, SignsZero}
-use Rattle.row_table.specs.declared.kinds.Tuple.{Tuple}
-use Rattle.row_table.specs.declared.kinds.Tuple.TheVariants.{NoTuple, Full, Half, FullMem, HalfMem, QuarterMem, EighthMem, Mem128, T1S, T2, T4, T8}
+use Rattle.row_table.specs.declared.kinds.MaskKind.TheVariants.{NoMask, MergeZero, ToMask, Blend, Compress, Expand, Required, Signs, SignsZero, Select}
+use Rattle.row_table.specs.Tuples.{element_bytes, tuple_bytes}
 use Rattle.row_table.specs.declared.kinds.Spot.{Spot}
 use Rattle.row_table.specs.declared.kinds.Spot.TheVariants.{Absent, Reg, Rm, Vvvv, OpcodeReg, Rax, Cl, Memory as InMemory, VectorMemory, Offset, Immediate, Relative, One, VectorReg, VectorRm, VectorVvvv, VectorImmediate, Xmm0, OpmaskReg, OpmaskRm, OpmaskVvvv}
 use Rattle.row_table.specs.declared.kinds.Layout.{Layout}
@@ -18,15 +17,15 @@ use Rattle.row_table.specs.declared.operations.Op.{Op}
 use Rattle.row_table.specs.declared.operations.Op.TheVariants.{Core, Gpr, Bit, String, Lane, Cross, Width, Mac, Mask as OnMasks, Vector, Gather, Xsave}
 use Rattle.row_table.specs.declared.operations.VectorOp.TheVariants.{Ptest, Pmovmskb, Movmskp}
 use Rattle.vec_units.specs.declared.forms.Form.{Form}
-use Rattle.vec_units.specs.Form.{form_of}
-use Rattle.vec_units.specs.Results.{sign_mask}
+use Rattle.vec_units.specs.Form.{form_of, is_expanded, chooses, memory_width}
+use Rattle.vec_units.specs.Results.{sign_mask, packed, taken_by, fed}
 use Rattle.num_lanes.specs.Setters.{zmm_in}
 use Rattle.masked_memory.specs.Lanes.{lane_accesses}
 use Rattle.vec_step.specs.declared.kinds.Spots.{Spots}
 use Rattle.vec_step.specs.declared.kinds.Places.{Places}
 use Rattle.vec_step.specs.declared.kinds.Span.{Span}
 use Rattle.vec_step.specs.declared.kinds.Source.{Source}
-use Rattle.vec_step.specs.declared.kinds.Source.TheVariants.{Register as FromRegister, General as FromGeneral, Count, Memory as FromMemory, Broadcast, Whole, Nothing}
+use Rattle.vec_step.specs.declared.kinds.Source.TheVariants.{Register as FromRegister, General as FromGeneral, Opmask as FromOpmask, Count, Memory as FromMemory, Broadcast, Whole, Nothing}
 use Rattle.vec_step.specs.declared.kinds.Target.{Target}
 use Rattle.vec_step.specs.declared.kinds.Target.TheVariants.{Register as ToRegister, Memory as ToMemory, Mask as ToMask, General as ToGeneral, Flags as ToFlags, Nowhere}
 use Rattle.vec_step.specs.declared.kinds.VectorPlan.{VectorPlan}
@@ -44,11 +43,20 @@ abbrev pub is_vvvv : Spot → Bool
 is_vvvv VectorVvvv = true
 is_vvvv spot = false
 
--- a list has two sources beside the destination where a third place is there that is no immediate, or where the destination is in
--- vvvv, as in shifts by an immediate; else the destination is the first source, too
+abbrev pub is_xmm0 : Spot → Bool
+is_xmm0 Xmm0 = true
+is_xmm0 spot = false
+
+abbrev pub is_register_by_immediate : Spot → Bool
+is_register_by_immediate VectorImmediate = true
+is_register_by_immediate spot = false
+
+-- a list has two sources beside the destination where a third place is there that is no immediate and not the XMM0 whose signs are a
+-- mask, or where the destination is in vvvv, as in shifts by an immediate; else the destination is the first source, too
 abbrev pub has_two_sources : Layout → Bool
 has_two_sources layout =
-    is_vvvv layout.first.spot || not (is_absent layout.third.spot || is_immediate layout.third.spot)
+    is_vvvv layout.first.spot
+    || not (is_absent layout.third.spot || (is_immediate layout.third.spot || is_xmm0 layout.third.spot))
 
 unfoldable pub spots_of : Layout → Spots
 spots_of layout = record {
@@ -92,51 +100,60 @@ abbrev pub opmask_in : Spot → Places → ℕ
 opmask_in spot p = number_in spot p % 8
 
 -- ---- lanes in memory
--- the bytes of an element, by W (SDM volume 2, 2.7.5)
-abbrev pub element_bytes : Fields → ℕ
-element_bytes fields = if fields.w then 8 else 4
+-- the bytes of a row's operand in memory, of vectors of the form's length
+abbrev pub memory_bytes : Row → Form → ℕ
+memory_bytes row f = tuple_bytes row.tuple f.width f.len
 
--- how many of so many bytes a row's operand has, of vectors of `len` bytes and, in tuples of elements, of `element` bytes each (SDM
--- volume 2, tables 2-34 and 2-35); legacy and VEX rows without a tuple have whole vectors
-unfoldable pub tuple_lanes : Tuple → (element width len : ℕ) → ℕ
-tuple_lanes NoTuple element width len = len / width
-tuple_lanes Full element width len = len / width
-tuple_lanes FullMem element width len = len / width
-tuple_lanes Half element width len = len / 2 / width
-tuple_lanes HalfMem element width len = len / 2 / width
-tuple_lanes QuarterMem element width len = len / 4 / width
-tuple_lanes EighthMem element width len = len / 8 / width
-tuple_lanes Mem128 element width len = 16 / width
-tuple_lanes T1S element width len = 1
-tuple_lanes T2 element width len = 2 * element / width
-tuple_lanes T4 element width len = 4 * element / width
-tuple_lanes T8 element width len = 8 * element / width
+-- the elements of a source
+abbrev pub element_count : Row → Form → ℕ
+element_count row f = memory_bytes row f / memory_width row
 
-abbrev pub lanes_in : Row → Fields → Form → ℕ
-lanes_in row fields f = tuple_lanes row.tuple (element_bytes fields) f.width f.len
+-- those of them that are read feed lanes that are masked in; all are where the mask chooses between the sources
+abbrev pub element_mask : Row → Form → (mask : ℕ) → ℕ
+element_mask row f mask = if chooses row.mask then 2 ^ 64 - 1 else fed (element_count row f) f.lanes mask
 
-abbrev pub span_of : Row → Fields → Form → (mask addr : ℕ) → Span
-span_of row fields f mask addr = record { addr = addr; width = f.width; lanes = lanes_in row fields f; mask = mask }
+abbrev pub element_span : Row → Form → (mask addr : ℕ) → Span
+element_span row f mask addr =
+    record { addr = addr; width = memory_width row; lanes = element_count row f; mask = element_mask row f mask }
+
+-- but VPEXPAND reads as many lanes as are masked in, one after the other
+abbrev pub packed_span : Form → (mask addr : ℕ) → Span
+packed_span f mask addr = record { addr = addr; width = f.width; lanes = f.lanes; mask = packed f.lanes mask }
+
+-- the lanes in memory of a source, and of the destination
+abbrev pub source_span : Row → Form → (mask addr : ℕ) → Span
+source_span row f mask addr = if is_expanded row.mask then packed_span f mask addr else element_span row f mask addr
+
+abbrev pub target_span : Form → (mask addr : ℕ) → Span
+target_span f mask addr = record { addr = addr; width = f.width; lanes = f.lanes; mask = taken_by f mask }
 
 -- ---- the mask
--- rows whose mask is the signs of the register in vvvv (SDM volume 2, VMASKMOV and VPMASKMOV)
+-- rows whose mask is the signs of a register's elements (SDM volume 2, VMASKMOV, VPMASKMOV, PBLENDVB, BLENDVPS and BLENDVPD)
 abbrev pub is_by_signs : MaskKind → Bool
 is_by_signs Signs = true
 is_by_signs SignsZero = true
+is_by_signs Select = true
 is_by_signs NoMask = false
 is_by_signs MergeZero = false
 is_by_signs ToMask = false
 is_by_signs Blend = false
 is_by_signs Compress = false
+is_by_signs Expand = false
 is_by_signs Required = false
 
 -- the opmask that an instruction names, or all lanes (SDM volume 1, 15.6.1)
 abbrev pub opmask_or_all : Fields → List ℕ → ℕ
 opmask_or_all fields k = if fields.aaa == 0 then 2 ^ 64 - 1 else slice_index k (fields.aaa % 8)
 
-abbrev pub mask_in : Row → Fields → Form → Places → Extended → ℕ
-mask_in row fields f p e =
-    if is_by_signs row.mask then sign_mask f (zmm_in e (vector_in VectorVvvv p)) else opmask_or_all fields e.k
+-- the register whose signs are the mask: XMM0, the one that the upper half of the immediate names, or the one in vvvv
+abbrev pub sign_register : Layout → Form → Places → ℕ
+sign_register layout f p =
+    if is_xmm0 layout.third.spot then 0
+    else if is_register_by_immediate layout.fourth.spot then f.imm / 16 else vector_in VectorVvvv p
+
+abbrev pub mask_in : Layout → Row → Fields → Form → Places → Extended → ℕ
+mask_in layout row fields f p e =
+    if is_by_signs row.mask then sign_mask f (zmm_in e (sign_register layout f p)) else opmask_or_all fields e.k
 
 -- ---- the sources
 -- one element of memory for all lanes (SDM volume 2, 2.7.5); it is accessed where a lane is masked in, and always in a row that reads
@@ -144,7 +161,7 @@ mask_in row fields f p e =
 abbrev pub element_of : Row → Fields → Form → (mask addr : ℕ) → Span
 element_of row fields f mask addr = record {
   addr = addr;
-  width = element_bytes fields;
+  width = element_bytes fields.w;
   lanes = 1;
   mask = if row.whole || not (mask % 2 ^ f.lanes == 0) then 1 else 0;
 }
@@ -153,8 +170,8 @@ element_of row fields f mask addr = record {
 abbrev pub source_at : Row → Fields → Form → (mask addr : ℕ) → Source
 source_at row fields f mask addr =
     if fields.bc then Broadcast (element_of row fields f mask addr)
-    else if row.whole then Whole addr (lanes_in row fields f * f.width)
-    else FromMemory (span_of row fields f mask addr)
+    else if row.whole then Whole addr (memory_bytes row f)
+    else FromMemory (source_span row f mask addr)
 
 -- the source in memory, if ModRM names memory
 abbrev pub memory_source : Row → Fields → Form → (mask : ℕ) → Option ℕ → Option Source
@@ -172,6 +189,7 @@ source_in VectorRm f memory p = source_or (FromRegister (vector_in VectorRm p)) 
 source_in Rm f memory p = source_or (FromGeneral (general_in Rm p)) memory
 source_in InMemory f memory p = source_or Nothing memory
 source_in Reg f memory p = FromGeneral (general_in Reg p)
+source_in OpmaskRm f memory p = FromOpmask (opmask_in OpmaskRm p)
 source_in Immediate f memory p = Count f.imm
 source_in Absent f memory p = Nothing
 source_in Vvvv f memory p = Nothing
@@ -185,7 +203,6 @@ source_in One f memory p = Nothing
 source_in VectorImmediate f memory p = Nothing
 source_in Xmm0 f memory p = Nothing
 source_in OpmaskReg f memory p = Nothing
-source_in OpmaskRm f memory p = Nothing
 source_in OpmaskVvvv f memory p = Nothing
 
 -- the first source; where the list names only one other it is the destination's register, and no memory is read for it
@@ -195,9 +212,9 @@ first_in false spot f memory p = FromRegister (vector_in spot p)
 
 -- ---- the destination
 -- the lanes in memory, if ModRM names memory
-abbrev pub memory_span : Row → Fields → Form → (mask : ℕ) → Option ℕ → Option Span
-memory_span row fields f mask None = None
-memory_span row fields f mask (Some addr) = Some (span_of row fields f mask addr)
+abbrev pub memory_span : Form → (mask : ℕ) → Option ℕ → Option Span
+memory_span f mask None = None
+memory_span f mask (Some addr) = Some (target_span f mask addr)
 
 abbrev pub target_or : Target → (memory : Option Span) → Target
 target_or register None = register
@@ -257,14 +274,15 @@ plan_by layout f row fields mask p next =
       old = vector_in spots.destination p;
       first = first_in (has_two_sources layout) spots.first f memory p;
       second = source_in spots.second f memory p;
-      target = target_at row.op spots.destination (memory_span row fields f mask p.memory) p;
+      target = target_at row.op spots.destination (memory_span f mask p.memory) p;
       next = next;
     }
 
 -- the instruction of a row and its fields, by the vector registers and opmasks
 unfoldable pub vector_plan : Row → Fields → Places → (next : ℕ) → Extended → VectorPlan
 vector_plan row fields p next e =
-    let f = form_of row fields in plan_by (layout_of row.operands) f row fields (mask_in row fields f p e) p next
+    let f = form_of row fields in
+    let layout = layout_of row.operands in plan_by layout f row fields (mask_in layout row fields f p e) p next
 
 -- ---- the access list: what is read first, and what is written last
 abbrev pub span_accesses : Kind → Span → List Access
@@ -273,6 +291,7 @@ span_accesses kind m = lane_accesses kind m.addr m.width m.mask m.lanes
 abbrev pub source_accesses : Source → List Access
 source_accesses (FromRegister n) = []
 source_accesses (FromGeneral n) = []
+source_accesses (FromOpmask n) = []
 source_accesses (Count n) = []
 source_accesses (FromMemory m) = span_accesses Read m
 source_accesses (Broadcast m) = span_accesses Read m

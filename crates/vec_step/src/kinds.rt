@@ -36,6 +36,8 @@ pub enum Source {
     Register(u8),
     /// A general register, whose number is the lowest lanes.
     General(u8),
+    /// An opmask, which is the lowest lanes.
+    Opmask(u8),
     /// The number of an immediate.
     Count(u8),
     /// Memory, lane by lane.

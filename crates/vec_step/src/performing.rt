@@ -51,7 +51,11 @@ fn walk_source(source: &Source, pages: &Pages) -> Result<(), Stop>
             addr: *addr,
             len: u64::from(*len),
         }]),
-        Source::Register(_) | Source::General(_) | Source::Count(_) | Source::Nothing => Ok(()),
+        Source::Register(_)
+        | Source::General(_)
+        | Source::Opmask(_)
+        | Source::Count(_)
+        | Source::Nothing => Ok(()),
     }
 }
 
@@ -158,6 +162,7 @@ fn operand(source: &Source, gprs: &Gprs, vec: &VecFile, pages: &Pages) -> Vec64
     match source {
         Source::Register(n) => *vec.zmm(*n),
         Source::General(n) => number(gprs.get(*n)),
+        Source::Opmask(n) => number(vec.k(*n)),
         Source::Count(n) => number(u64::from(*n)),
         Source::Memory(m) => load_span(m, pages),
         Source::Broadcast(m) => load_spread(m, pages),

@@ -1,72 +1,120 @@
 //! A vector instruction, by its row and fields.
-ghost use Rattle.std.specs.Prelude.{◌≡◌, ◌*◌, ◌^◌, ◌%◌, ◌==◌, ◌≤◌, IsTrue};
+ghost use Rattle.std.specs.Prelude.{◌≡◌, ◌*◌, ◌^◌, ◌%◌, ◌==◌, ◌<◌, ◌≤◌, IsTrue};
 ghost use Rattle.gpr_flags.specs.Registers.{is_size};
-ghost use Rattle.vec_units.specs.Form.{IsVectorRow, FormFits};
-ghost use Rattle.vec_step.specs.Plan.{element_bytes as element_bytes_of, lanes_in as lanes_in_row, span_of, is_by_signs as is_by_signs_kind, opmask_or_all as opmask_or_all_of, mask_in as mask_in_state, element_of, source_at as source_at_address, memory_source as memory_source_of, source_or as source_or_by, source_in, first_in, memory_span as memory_span_of, target_or as target_or_by, target_in, target_at, gives_flags as gives_flags_by, vector_plan};
+ghost use Rattle.vec_units.specs.Form.{IsVectorRow, FormFits, memory_width as memory_width_of};
+ghost use Rattle.vec_step.specs.Plan.{memory_bytes as memory_bytes_of, element_count as element_count_of, element_mask as element_mask_of, element_span as element_span_of, packed_span as packed_span_of, source_span as source_span_of, target_span as target_span_of, is_by_signs as is_by_signs_kind, sign_register as sign_register_of, opmask_or_all as opmask_or_all_of, mask_in as mask_in_state, element_of, source_at as source_at_address, memory_source as memory_source_of, source_or as source_or_by, source_in, first_in, memory_span as memory_span_of, target_or as target_or_by, target_in, target_at, gives_flags as gives_flags_by, vector_plan};
 ghost use Rattle.vec_step.specs.Fits.{PlanFits, SpanFits, LanesFit, SourceFits, MemoryFits, TargetFits};
 
 use crate::kinds::{Places, Source, Span, Target, VectorPlan};
 use crate::places::{general, has_two_sources, opmask, spots, vector};
 use gpr_flags::low;
-use row_table::{Fields, MaskKind, Op, Row, Spot, Tuple, VectorOp, layout};
+use row_table::{Fields, Layout, MaskKind, Op, Row, Spot, VectorOp, element_bytes, layout, tuple_bytes};
 use vec_file::VecFile;
-use vec_units::{Form, form_for, signs};
+use vec_units::{Form, chooses, fed, form_for, is_expanded, memory_width, packed, signs, taken};
 
-/// The bytes of an element.
-fn element_bytes(fields: &Fields) -> u8
-    ensures value { result ≡ element_bytes_of fields.now }
-    ensures size { IsTrue (is_size result) }
-    ensures most { result ≤ 8 }
+/// The bytes of a row's operand in memory.
+fn memory_bytes(row: &Row, f: &Form) -> u8
+    requires { FormFits f.now }
+    ensures value { result ≡ memory_bytes_of row.now f.now }
+    ensures most { result ≤ 64 }
 {
-    if fields.w { 8 } else { 4 }
+    tuple_bytes(row.tuple, f.width, f.len)
 }
 
-/// How many lanes a row has in memory, by its tuple.
-#[tactic(auto, unfolding(crate::specs::Plan::tuple_lanes))]
-fn lanes_in(row: &Row, fields: &Fields, f: &Form) -> u8
-    requires { FormFits f.now }
-    ensures value { result ≡ lanes_in_row row.now fields.now f.now }
-    ensures most { result * f.now.width ≤ 64 }
+/// The elements of a source.
+fn element_count(row: &Row, f: &Form) -> u8
+    requires row { IsVectorRow row.now }
+    requires form { FormFits f.now }
+    ensures value { result ≡ element_count_of row.now f.now }
+    ensures most { result * memory_width_of row.now ≤ 64 }
 {
-    let element = element_bytes(fields);
-    match row.tuple {
-        Tuple::NoTuple | Tuple::Full | Tuple::FullMem => f.len / f.width,
-        Tuple::Half | Tuple::HalfMem => f.len / 2 / f.width,
-        Tuple::QuarterMem => f.len / 4 / f.width,
-        Tuple::EighthMem => f.len / 8 / f.width,
-        Tuple::Mem128 => 16 / f.width,
-        Tuple::T1S => 1,
-        Tuple::T2 => 2 * element / f.width,
-        Tuple::T4 => 4 * element / f.width,
-        Tuple::T8 => 8 * element / f.width,
+    memory_bytes(row, f) / memory_width(row)
+}
+
+/// Those elements of a source that are read, where there are so many.
+fn element_mask(row: &Row, f: &Form, count: u8, mask: u64) -> u64
+    requires form { FormFits f.now }
+    requires count { count ≡ element_count_of row.now f.now }
+    requires most { count ≤ 64 }
+    ensures { result ≡ element_mask_of row.now f.now mask }
+{
+    if chooses(row.mask) {
+        u64::MAX
+    } else {
+        fed(count, f.lanes, mask)
     }
 }
 
-/// The lanes in memory at an address.
-fn span(row: &Row, fields: &Fields, f: &Form, mask: u64, addr: u64) -> Span
+/// The elements in memory of a source.
+fn element_span(row: &Row, f: &Form, mask: u64, addr: u64) -> Span
+    requires row { IsVectorRow row.now }
+    requires form { FormFits f.now }
+    ensures is { result ≡ element_span_of row.now f.now mask addr }
+    ensures fits { SpanFits result }
+{
+    let lanes = element_count(row, f);
+    Span {
+        addr,
+        width: memory_width(row),
+        lanes,
+        mask: element_mask(row, f, lanes, mask),
+    }
+}
+
+/// Lanes in memory that stand one after the other, as many as are masked in.
+fn packed_span(f: &Form, mask: u64, addr: u64) -> Span
     requires { FormFits f.now }
-    ensures is { result ≡ span_of row.now fields.now f.now mask addr }
+    ensures is { result ≡ packed_span_of f.now mask addr }
     ensures fits { SpanFits result }
 {
     Span {
         addr,
         width: f.width,
-        lanes: lanes_in(row, fields, f),
-        mask,
+        lanes: f.lanes,
+        mask: packed(f.lanes, mask),
     }
 }
 
-/// Whether a row's mask is the signs of the register in vvvv.
+/// The lanes in memory of a source.
+fn source_span(row: &Row, f: &Form, mask: u64, addr: u64) -> Span
+    requires row { IsVectorRow row.now }
+    requires form { FormFits f.now }
+    ensures is { result ≡ source_span_of row.now f.now mask addr }
+    ensures fits { SpanFits result }
+{
+    if is_expanded(row.mask) {
+        packed_span(f, mask, addr)
+    } else {
+        element_span(row, f, mask, addr)
+    }
+}
+
+/// The lanes in memory of the destination.
+fn target_span(f: &Form, mask: u64, addr: u64) -> Span
+    requires { FormFits f.now }
+    ensures is { result ≡ target_span_of f.now mask addr }
+    ensures fits { SpanFits result }
+{
+    Span {
+        addr,
+        width: f.width,
+        lanes: f.lanes,
+        mask: taken(f, mask),
+    }
+}
+
+/// Whether a row's mask is the signs of a register.
 fn is_by_signs(kind: MaskKind) -> bool
     ensures { result ≡ is_by_signs_kind kind }
 {
     match kind {
-        MaskKind::Signs | MaskKind::SignsZero => true,
+        MaskKind::Signs | MaskKind::SignsZero | MaskKind::Select => true,
         MaskKind::NoMask
         | MaskKind::MergeZero
         | MaskKind::ToMask
         | MaskKind::Blend
         | MaskKind::Compress
+        | MaskKind::Expand
         | MaskKind::Required => false,
     }
 }
@@ -82,13 +130,34 @@ fn opmask_or_all(fields: &Fields, vec: &VecFile) -> u64
     }
 }
 
+/// The register whose signs are the mask.
+fn sign_register(layout: &Layout, f: &Form, p: &Places) -> u8
+    ensures value { result ≡ sign_register_of layout.now f.now p.now }
+    ensures fits { result < 32 }
+{
+    if matches!(layout.third.spot, Spot::Xmm0) {
+        0
+    } else if matches!(layout.fourth.spot, Spot::VectorImmediate) {
+        f.imm / 16
+    } else {
+        vector(Spot::VectorVvvv, p)
+    }
+}
+
 /// The mask.
-fn mask_in(row: &Row, fields: &Fields, f: &Form, p: &Places, vec: &VecFile) -> u64
+fn mask_in(
+    layout: &Layout,
+    row: &Row,
+    fields: &Fields,
+    f: &Form,
+    p: &Places,
+    vec: &VecFile,
+) -> u64
     requires { FormFits f.now }
-    ensures { result ≡ mask_in_state row.now fields.now f.now p.now vec.now }
+    ensures { result ≡ mask_in_state layout.now row.now fields.now f.now p.now vec.now }
 {
     if is_by_signs(row.mask) {
-        signs(f, vec.zmm(vector(Spot::VectorVvvv, p)))
+        signs(f, vec.zmm(sign_register(layout, f, p)))
     } else {
         opmask_or_all(fields, vec)
     }
@@ -110,7 +179,7 @@ fn element(row: &Row, fields: &Fields, f: &Form, mask: u64, addr: u64) -> Span
 {
     Span {
         addr,
-        width: element_bytes(fields),
+        width: element_bytes(fields.w),
         lanes: 1,
         mask: u64::from(row.whole || !is_empty(f, mask)),
     }
@@ -118,16 +187,17 @@ fn element(row: &Row, fields: &Fields, f: &Form, mask: u64, addr: u64) -> Span
 
 /// A source at an address.
 fn source_at(row: &Row, fields: &Fields, f: &Form, mask: u64, addr: u64) -> Source
-    requires { FormFits f.now }
+    requires row { IsVectorRow row.now }
+    requires form { FormFits f.now }
     ensures is { result ≡ source_at_address row.now fields.now f.now mask addr }
     ensures fits { SourceFits result }
 {
     if fields.bc {
         Source::Broadcast(element(row, fields, f, mask, addr))
     } else if row.whole {
-        Source::Whole(addr, lanes_in(row, fields, f) * f.width)
+        Source::Whole(addr, memory_bytes(row, f))
     } else {
-        Source::Memory(span(row, fields, f, mask, addr))
+        Source::Memory(source_span(row, f, mask, addr))
     }
 }
 
@@ -139,7 +209,8 @@ fn memory_source(
     mask: u64,
     memory: Option<u64>,
 ) -> Option<Source>
-    requires { FormFits f.now }
+    requires row { IsVectorRow row.now }
+    requires form { FormFits f.now }
     ensures is { result ≡ memory_source_of row.now fields.now f.now mask memory }
     ensures fits { MemoryFits result }
 {
@@ -175,6 +246,7 @@ fn source(spot: Spot, f: &Form, memory: Option<Source>, p: &Places) -> Source
         Spot::Rm => source_or(Source::General(general(spot, p)), memory),
         Spot::Memory => source_or(Source::Nothing, memory),
         Spot::Reg => Source::General(general(spot, p)),
+        Spot::OpmaskRm => Source::Opmask(opmask(spot, p)),
         Spot::Immediate => Source::Count(f.imm),
         Spot::Absent
         | Spot::Vvvv
@@ -188,7 +260,6 @@ fn source(spot: Spot, f: &Form, memory: Option<Source>, p: &Places) -> Source
         | Spot::VectorImmediate
         | Spot::Xmm0
         | Spot::OpmaskReg
-        | Spot::OpmaskRm
         | Spot::OpmaskVvvv => Source::Nothing,
     }
 }
@@ -207,14 +278,14 @@ fn first(two: bool, spot: Spot, f: &Form, memory: Option<Source>, p: &Places) ->
 }
 
 /// The lanes in memory, if ModRM names memory.
-fn memory_span(row: &Row, fields: &Fields, f: &Form, mask: u64, memory: Option<u64>) -> Option<Span>
+fn memory_span(f: &Form, mask: u64, memory: Option<u64>) -> Option<Span>
     requires { FormFits f.now }
-    ensures is { result ≡ memory_span_of row.now fields.now f.now mask memory }
+    ensures is { result ≡ memory_span_of f.now mask memory }
     ensures fits { LanesFit result }
 {
     match memory {
         None => None,
-        Some(addr) => Some(span(row, fields, f, mask, addr)),
+        Some(addr) => Some(target_span(f, mask, addr)),
     }
 }
 
@@ -305,12 +376,12 @@ pub fn plan(row: &Row, fields: &Fields, p: &Places, next: u64, vec: &VecFile) ->
     ensures fits { PlanFits result }
 {
     let form = form_for(row, fields);
-    let mask = mask_in(row, fields, &form, p, vec);
     let layout = layout(row.operands);
+    let mask = mask_in(&layout, row, fields, &form, p, vec);
     let two = has_two_sources(&layout);
     let spots = spots(&layout);
     let memory = memory_source(row, fields, &form, mask, p.memory);
-    let lanes = memory_span(row, fields, &form, mask, p.memory);
+    let lanes = memory_span(&form, mask, p.memory);
     VectorPlan {
         form,
         mask,

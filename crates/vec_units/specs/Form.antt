@@ -10,7 +10,7 @@ use Rattle.row_table.specs.declared.kinds.Row.{Row}
 use Rattle.row_table.specs.declared.kinds.Fields.{Fields}
 use Rattle.row_table.specs.Rows.{rows}
 use Rattle.row_table.specs.Spelling.{writes_rm}
-use Rattle.row_table.specs.Tuples.{vector_bytes, tuple_bytes}
+use Rattle.row_table.specs.Tuples.{vector_bytes, tuple_bytes, source_width}
 use Rattle.num_lanes.specs.Lane.{IsLength}
 use Rattle.vec_units.specs.declared.forms.Form.{Form}
 use Rattle.vec_units.specs.Compute.{is_vector}
@@ -32,11 +32,41 @@ is_compressed Signs = false
 is_compressed SignsZero = false
 is_compressed Select = false
 
+-- VPEXPAND likewise
+abbrev pub is_expanded : MaskKind → Bool
+is_expanded Expand = true
+is_expanded NoMask = false
+is_expanded MergeZero = false
+is_expanded ToMask = false
+is_expanded Blend = false
+is_expanded Compress = false
+is_expanded Required = false
+is_expanded Signs = false
+is_expanded SignsZero = false
+is_expanded Select = false
+
+-- a mask that chooses between the sources, and has no lane out
+abbrev pub chooses : MaskKind → Bool
+chooses Select = true
+chooses NoMask = false
+chooses MergeZero = false
+chooses ToMask = false
+chooses Blend = false
+chooses Compress = false
+chooses Expand = false
+chooses Required = false
+chooses Signs = false
+chooses SignsZero = false
+
 -- the bytes that the result has: those of the vectors, but where the destination is in ModRM.r/m, as a part that is extracted or lanes
 -- that are narrowed, those of its tuple, if these are fewer
 abbrev pub result_bytes : Row → (len : ℕ) → ℕ
 result_bytes row len =
     if writes_rm row.operands && not (is_compressed row.mask) then min (tuple_bytes row.tuple (row.width / 8) len) len else len
+
+-- the bytes of an element in memory
+abbrev pub memory_width : Row → ℕ
+memory_width row = if writes_rm row.operands then row.width / 8 else source_width row.tuple (row.width / 8)
 
 -- legacy rows leave the bytes above the vectors as they were (SDM volume 1, 14.1.3)
 abbrev pub is_legacy : Class → Bool
@@ -56,10 +86,11 @@ form_of row f = record {
   keeps = is_legacy row.class;
 }
 
--- a row of a vector operation, whose lanes have a width
+-- a row of a vector operation, whose lanes and elements in memory have a width
 pub record IsVectorRow (row : Row) : Type 0 where
   pub op : IsTrue (is_vector row.op)
   pub width : IsTrue (is_size (row.width / 8))
+  pub memory : IsTrue (is_size (memory_width row))
 
 abbrev pub IsVectorAt : Option Row → Type 0
 IsVectorAt None = ⊥

@@ -14,7 +14,7 @@ use Rattle.num_lanes.specs.Lane.{lane_of, joined}
 use Rattle.vec_units.specs.declared.forms.Form.{Form}
 use Rattle.width_kernels.specs.WidthOps.{masked_below}
 use Rattle.vec_units.specs.Compute.{lane_by}
-use Rattle.vec_units.specs.Form.{form_of}
+use Rattle.vec_units.specs.Form.{form_of, is_compressed, chooses}
 
 -- the bytes of a register that an instruction's vectors have
 abbrev pub part : Form → List ℕ → List ℕ
@@ -49,16 +49,7 @@ packed lanes mask = 2 ^ masked_below mask lanes - 1
 -- which lanes are those that are computed: those that the mask has, but of VPCOMPRESS the lowest, as many as the mask has, and all where
 -- the mask chooses between the sources
 abbrev pub taken : MaskKind → (lanes mask : ℕ) → ℕ
-taken Compress lanes mask = packed lanes mask
-taken Select lanes mask = 2 ^ 64 - 1
-taken NoMask lanes mask = mask
-taken MergeZero lanes mask = mask
-taken ToMask lanes mask = mask
-taken Blend lanes mask = mask
-taken Expand lanes mask = mask
-taken Required lanes mask = mask
-taken Signs lanes mask = mask
-taken SignsZero lanes mask = mask
+taken kind lanes mask = if is_compressed kind then packed lanes mask else if chooses kind then 2 ^ 64 - 1 else mask
 
 abbrev pub taken_by : Form → (mask : ℕ) → ℕ
 taken_by f mask = taken f.masking f.lanes mask

@@ -59,7 +59,6 @@ fn is_fed(n: u8, lanes: u8, mask: u64, element: u8) -> bool
 /// Of `n` elements those that feed lanes that are masked in, a bit an element: element j is that of the lanes j, j + n, j + 2 n and so on.
 #[tactic(auto, unfolding(crate::specs::Results::fed))]
 pub fn fed(n: u8, lanes: u8, mask: u64) -> u64
-    requires some { 0 < n }
     requires most { n ≤ 64 }
     requires lanes { lanes ≤ 64 }
     ensures { result ≡ fed_of n lanes mask }

@@ -1,9 +1,9 @@
 //! What of a row and its fields a vector result depends on.
-ghost use Rattle.std.specs.Prelude.{◌≡◌, ◌≤◌};
+ghost use Rattle.std.specs.Prelude.{◌≡◌, ◌≤◌, ◌/◌};
 ghost use Rattle.num_lanes.specs.Lane.{IsLength};
-ghost use Rattle.vec_units.specs.Form.{form_of, FormFits, IsVectorRow, vector_len as vector_len_of, is_legacy as is_legacy_class, is_compressed as is_compressed_kind, result_bytes as result_bytes_of};
+ghost use Rattle.vec_units.specs.Form.{form_of, FormFits, IsVectorRow, vector_len as vector_len_of, is_legacy as is_legacy_class, is_compressed as is_compressed_kind, is_expanded as is_expanded_kind, chooses as chooses_kind, memory_width as memory_width_of, result_bytes as result_bytes_of};
 
-use row_table::{Class, Fields, MaskKind, Op, Row, does_write_rm, tuple_bytes, vector_bytes};
+use row_table::{Class, Fields, MaskKind, Op, Row, does_write_rm, source_width, tuple_bytes, vector_bytes};
 
 /// What of a row and its fields a vector result depends on.
 #[derive(Clone, Copy)]
@@ -40,21 +40,37 @@ fn is_legacy(class: Class) -> bool
     }
 }
 
-/// Whether an operation is VPCOMPRESS.
-fn is_compressed(kind: MaskKind) -> bool
+/// Whether a mask is that of VPCOMPRESS.
+pub(crate) fn is_compressed(kind: MaskKind) -> bool
     ensures { result ≡ is_compressed_kind kind }
 {
-    match kind {
-        MaskKind::Compress => true,
-        MaskKind::NoMask
-        | MaskKind::MergeZero
-        | MaskKind::ToMask
-        | MaskKind::Blend
-        | MaskKind::Expand
-        | MaskKind::Required
-        | MaskKind::Signs
-        | MaskKind::SignsZero
-        | MaskKind::Select => false,
+    matches!(kind, MaskKind::Compress)
+}
+
+/// Whether a mask is that of VPEXPAND.
+pub fn is_expanded(kind: MaskKind) -> bool
+    ensures { result ≡ is_expanded_kind kind }
+{
+    matches!(kind, MaskKind::Expand)
+}
+
+/// Whether a mask chooses between the sources.
+pub fn chooses(kind: MaskKind) -> bool
+    ensures { result ≡ chooses_kind kind }
+{
+    matches!(kind, MaskKind::Select)
+}
+
+/// The bytes of an element of a row in memory.
+pub fn memory_width(row: &Row) -> u8
+    ensures value { result ≡ memory_width_of row.now }
+    ensures most { result ≤ row.now.width / 8 }
+{
+    let width = row.width / 8;
+    if does_write_rm(row.operands) {
+        width
+    } else {
+        source_width(row.tuple, width)
     }
 }
 

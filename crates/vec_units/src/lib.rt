@@ -8,7 +8,7 @@ mod masked;
 mod results;
 
 pub use bit_masks::fed;
-pub use forms::{Form, form_for};
+pub use forms::{Form, chooses, form_for, is_expanded, memory_width};
 pub use masked::{packed, taken};
 pub use results::{bits, mask_result, result, signs, vector};
 

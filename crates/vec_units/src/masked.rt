@@ -5,7 +5,7 @@ ghost use Rattle.num_lanes.specs.Lane.{lane_of, joined};
 ghost use Rattle.vec_units.specs.Form.{FormFits};
 ghost use Rattle.vec_units.specs.Results.{merged as merged_of, left_out as left_out_of, packed as packed_of, taken_by, placed_lane};
 
-use crate::forms::Form;
+use crate::forms::{Form, chooses, is_compressed};
 use gpr_flags::{has_bit, low, ones};
 use num_lanes::{Vec64, get_lane, set_lane};
 use row_table::MaskKind;
@@ -49,17 +49,12 @@ pub fn taken(f: &Form, mask: u64) -> u64
     requires { FormFits f.now }
     ensures { result ≡ taken_by f.now mask }
 {
-    match f.masking {
-        MaskKind::Compress => packed(f.lanes, mask),
-        MaskKind::Select => u64::MAX,
-        MaskKind::NoMask
-        | MaskKind::MergeZero
-        | MaskKind::ToMask
-        | MaskKind::Blend
-        | MaskKind::Expand
-        | MaskKind::Required
-        | MaskKind::Signs
-        | MaskKind::SignsZero => mask,
+    if is_compressed(f.masking) {
+        packed(f.lanes, mask)
+    } else if chooses(f.masking) {
+        u64::MAX
+    } else {
+        mask
     }
 }
 
