@@ -2,7 +2,7 @@
 -- gives what a line of the map says, and the term below it the rows. A name that ends in D and Q is that of two instructions, of 32
 -- bits without W and of 64 with W, and so does one that ends in B and W, of 8 and 16 bits.
 use Rattle.std.specs.Prelude.{List, [], ◌∷◌, ◌++◌, map}
-use Rattle.row_table.specs.declared.kinds.Operands.TheVariants.{VxWx, WxVx, WxVxIb, HxWxIb, VxMx, MxVx, VxHxMx, VxHxUx, VxEv, EvVx, VxHxEvIb, EvVxIb, VxRv, GvUxIb, KxUx, VxKx}
+use Rattle.row_table.specs.declared.kinds.Operands.TheVariants.{VxWx, WxVx, WxVxIb, VxMx, MxVx, VxHxMx, VxHxUx, VxEv, EvVx, VxHxEvIb, EvVxIb, VxRv, GvUxIb, KxUx, VxKx}
 use Rattle.row_table.specs.declared.kinds.Tuple.TheVariants.{Full, HalfMem, QuarterMem, EighthMem, T2}
 use Rattle.row_table.specs.declared.kinds.Row.{Row}
 use Rattle.row_table.specs.declared.operations.Op.TheVariants.{Lane, Cross, Width, Mac}
