@@ -216,8 +216,9 @@ evex_38_62 = map p66 (
     -- 75, 76, 77: VPERMI2B and W, VPERMI2D and Q, VPERMI2PS and VPERMI2PD
     ++ by_w_of 8 16 (λ width. shuffled 0x75 width (Cross Vpermi2)) ++ both (λ width. shuffled 0x76 width (Cross Vpermi2))
     ++ both (λ width. shuffled 0x77 width (Cross Vpermi2))
-    -- 78, 79: VPBROADCASTB, VPBROADCASTW Vx,Wx; 7A, 7B without W, 7C, registers only: VPBROADCASTB, VPBROADCASTW, VPBROADCASTD and Q Vx,Ry
-    ++ element (evex 0x78 VxWx 8 (Cross Broadcast)) ∷ element (evex 0x79 VxWx 16 (Cross Broadcast))
+    -- 78, 79 without W: VPBROADCASTB, VPBROADCASTW Vx,Wx
+    ++ without_w (element (evex 0x78 VxWx 8 (Cross Broadcast))) ∷ without_w (element (evex 0x79 VxWx 16 (Cross Broadcast)))
+    -- 7A, 7B without W, and 7C, registers only: VPBROADCASTB, VPBROADCASTW, VPBROADCASTD and Q Vx,Ry
     ∷ without_w (of_registers (evex 0x7A VxRv 8 (Cross Broadcast))) ∷ without_w (of_registers (evex 0x7B VxRv 16 (Cross Broadcast)))
     ∷ both (λ width. of_registers (evex 0x7C VxRv width (Cross Broadcast)))
     -- 7D, 7E, 7F: VPERMT2B and W, VPERMT2D and Q, VPERMT2PS and VPERMT2PD
