@@ -18,6 +18,9 @@ REGISTER_ONLY = "R HxUxIb UxIb VxHxUx VxHxUxIb UxHxVx VxUx VxUxIb UxVx VxRv GvUx
 # The operands whose first may be in memory, of those on vectors.
 STORES = "WxVx WxVxIb MxVx MxHxVx EvVx EvVxIb VmVx".split()
 
+# The operands with a general register in ModRM.r/m, of those on vectors.
+GENERAL_RM = "VxEv EvVx VxEvIb VxHxEvIb EvVxIb VxRv".split()
+
 Row = collections.namedtuple("Row", "kind map mark opcode digit w lengths operands width part op level tuple mask")
 
 # What stands before an instruction's operands. `kind`: legacy, vex or evex; `front`: the legacy prefixes and REX; `mark`: the

@@ -134,12 +134,13 @@ fn known_instructions_are_whole(rt: HostRuntime) {
 
 #[test]
 fn cut_and_unknown_bytes_are_told_apart(rt: HostRuntime) {
-    let cut: [&[u8]; 9] = [
+    let cut: [&[u8]; 10] = [
         &[],
         &[0x66, 0x66, 0x66],
         &[0x66; 16],
         &[0x0f],
         &[0x0f, 0x38],
+        &[0x0f, 0x3a],
         &[0xf6, 0xc0],
         &[0x8b, 0x04],
         &[0x8b, 0x04, 0x25, 0, 0x10, 0],
@@ -153,7 +154,7 @@ fn cut_and_unknown_bytes_are_told_apart(rt: HostRuntime) {
         &[0x0f, 0x0b],
         &[0x0f, 0x58, 0xc1],
         &[0x0f, 0x38, 0xdc],
-        &[0x0f, 0x3a],
+        &[0x0f, 0x3a, 0x08],
         &[0x66, 0x48, 0x27],
     ];
     for bytes in unknown {

@@ -3,14 +3,15 @@
 use Rattle.std.specs.Prelude.{List, [], ◌∷◌, ◌++◌, flat_map}
 use Rattle.row_table.specs.declared.kinds.Operands.TheVariants.{Implied, OpcodeReg, RaxOpcodeReg, OpcodeRegIb, OpcodeRegIv, Ib, Iw, Iz, Jb, Jz, AlIb, RaxIz, AlOb, RaxOv, ObAl, OvRax, Eb, Ev, EbGb, EvGv, GbEb, GvEv, GvEb, GvEw, GvEd, EbIb, EvIb, EvIz, EbOne, EvOne, EbCl, EvCl, GvEvIb, GvEvIz, EvGvIb, EvGvCl, GvM, MvGv, M, R}
 use Rattle.row_table.specs.declared.kinds.Row.{Row}
-use Rattle.row_table.specs.declared.operations.Op.TheVariants.{Core, Gpr, Bit, String}
+use Rattle.row_table.specs.declared.operations.Op.TheVariants.{Core, Gpr, Bit, String, Cross}
 use Rattle.row_table.specs.declared.operations.CoreOp.TheVariants.{Mov, Movsxd, Movzx, Movsx, Movbe, Movnti, Lea, Xchg, Push, Pop, Pushf, Popf, Leave, Call, Ret, Jmp, Jcc, Loopne, Loope, Loop, Jrcxz, Cmovcc, Setcc, Cbw, Cwd, Bswap, Cmc, Clc, Stc, Cld, Std, Sahf, Lahf, Int3, Hlt, Syscall, Rdtsc, Nop, Xadd, Cmpxchg, Cmpxchg8b, Ldmxcsr, Stmxcsr, Clflush}
 use Rattle.row_table.specs.declared.operations.StringOp.TheVariants.{Movs, Cmps, Stos, Lods, Scas}
 use Rattle.row_table.specs.declared.operations.GprOp.TheVariants.{Add, Or, Adc, Sbb, And, Sub, Xor, Cmp, Test, Imul, Inc, Dec, Adcx, Adox}
 use Rattle.row_table.specs.declared.operations.BitOp.TheVariants.{Shld, Shrd, Bt, Bts, Btr, Btc, Popcnt, Bsf, Tzcnt, Bsr, Lzcnt}
+use Rattle.row_table.specs.declared.operations.CrossOp.TheVariants.{Pblendv, Blendvp}
 use Rattle.row_table.specs.Lines.{sized, byte, always, scalar, digit, without_w, with_w, np, p66, pf3, aligned, level_3, opcodes, registers, conditions, by_w, arithmetic, group_1, group_2, group_3, group_8, in_map}
-use Rattle.row_table.specs.VectorLines.{Sse}
-use Rattle.row_table.specs.Simd.{simd_10, simd_28, simd_50, simd_7e, simd_d1, simd_08, simd_37}
+use Rattle.row_table.specs.VectorLines.{Sse, two_sources_by_signs}
+use Rattle.row_table.specs.Simd.{simd_10, simd_28, simd_50, simd_60, simd_70, simd_7e, simd_c4, simd_d1, simd_e0, simd_f0, simd_38_00, simd_38_17, simd_38_1c, simd_38_30, simd_38_37, simd_3a_0c, simd_3a_20, simd_3a_42}
 
 -- the one-byte map (table A-2)
 unfoldable pub one_byte : List Row
@@ -112,7 +113,7 @@ two_byte =
     -- 40+cc: CMOVcc Gv,Ev
     ++ conditions (sized 0x40 GvEv (Core Cmovcc))
     -- 50 to 76, 7E, 7F: vector instructions
-    ++ simd_50 Sse ++ simd_7e Sse
+    ++ simd_50 Sse ++ simd_60 Sse ++ simd_70 Sse ++ simd_7e Sse
     -- 80+cc, 90+cc: Jcc by 4 bytes; SETcc Eb
     ++ conditions (always 0x80 Jz (Core Jcc))
     ++ conditions (byte 0x90 Eb (Core Setcc))
@@ -151,19 +152,26 @@ two_byte =
     ++ byte 0xC0 EbGb (Core Xadd) ∷ sized 0xC1 EvGv (Core Xadd) ∷ []
     -- NP C3, memory only: MOVNTI Mv,Gv
     ++ np (sized 0xC3 MvGv (Core Movnti)) ∷ []
+    -- C4, C5, C6: vector instructions
+    ++ simd_c4 Sse
     -- C7 /1, memory only: CMPXCHG8B, and with W CMPXCHG16B, aligned to 16 bytes
     ++ without_w (digit 1 (scalar 0xC7 M 64 (Core Cmpxchg8b)))
     ∷ aligned (with_w (digit 1 (scalar 0xC7 M 128 (Core Cmpxchg8b)))) ∷ []
     -- C8+r: BSWAP, 32 or 64
     ++ flat_map by_w (registers (scalar 0xC8 OpcodeReg 32 (Core Bswap)))
     -- D1 to FE: vector instructions
-    ++ simd_d1 Sse
+    ++ simd_d1 Sse ++ simd_e0 Sse ++ simd_f0 Sse
 
 -- the map of 0F38 (table A-4)
 unfoldable pub three_byte : List Row
 three_byte =
-    -- 08 to 3F: vector instructions
-    simd_08 Sse ++ simd_37 Sse
+    -- 00 to 0B: vector instructions
+    simd_38_00 Sse
+    -- 66 10, 14, 15: PBLENDVB, BLENDVPS, BLENDVPD Vx,Wx by the signs of XMM0
+    ++ p66 (two_sources_by_signs Sse 0x10 8 (Cross Pblendv)) ∷ p66 (two_sources_by_signs Sse 0x14 32 (Cross Blendvp))
+    ∷ p66 (two_sources_by_signs Sse 0x15 64 (Cross Blendvp)) ∷ []
+    -- 17 to 41: vector instructions
+    ++ simd_38_17 Sse ++ simd_38_1c Sse ++ simd_38_30 Sse ++ simd_38_37 Sse
     -- NP F0, 66 F0, memory only: MOVBE Gv,Mv
     ++ level_3 (np (sized 0xF0 GvM (Core Movbe))) ∷ level_3 (p66 (sized 0xF0 GvM (Core Movbe)))
     -- NP F1, 66 F1, memory only: MOVBE Mv,Gv
@@ -173,6 +181,10 @@ three_byte =
     -- F3 F6: ADOX Gv,Ev, 32 or 64
     ++ by_w (level_3 (pf3 (scalar 0xF6 GvEv 32 (Gpr Adox))))
 
+-- the map of 0F3A (table A-5), of vector instructions alone
+abbrev three_byte_by : List Row
+three_byte_by = simd_3a_0c Sse ++ simd_3a_20 Sse ++ simd_3a_42 Sse
+
 -- the legacy rows
 unfoldable pub legacy : List Row
-legacy = one_byte ++ in_map 1 two_byte ++ in_map 2 three_byte
+legacy = one_byte ++ in_map 1 two_byte ++ in_map 2 three_byte ++ in_map 3 three_byte_by

@@ -11,7 +11,8 @@ order =
     ∷ RaxOv ∷ ObAl ∷ OvRax ∷ Eb ∷ Ev ∷ EbGb ∷ EvGv ∷ GbEb ∷ GvEv ∷ GvEb ∷ GvEw ∷ GvEd ∷ EbIb ∷ EvIb ∷ EvIz ∷ EbOne
     ∷ EvOne ∷ EbCl ∷ EvCl ∷ GvEvIb ∷ GvEvIz ∷ EvGvIb ∷ EvGvCl ∷ GvM ∷ MvGv ∷ M ∷ R ∷ ByteD0 ∷ GyByEy ∷ GyEyBy ∷ ByEy
     ∷ GyEyIb ∷ VxHxWx ∷ VxHxWxIb ∷ VxHxWdq ∷ VxHxWxLx ∷ VxWx ∷ VxWdq ∷ VxWxIb ∷ VxWxXmm0 ∷ WxVx ∷ WxVxIb ∷ HxWxIb
-    ∷ HxUxIb ∷ UxIb ∷ VxMx ∷ VxMxIb ∷ MxVx ∷ VxHxMx ∷ VxHxMxIb ∷ MxHxVx ∷ VxHxUx ∷ VxHxUxIb ∷ UxHxVx ∷ VxUx ∷ VxUxIb ∷ UxVx ∷ VxEv ∷ EvVx ∷ VxEvIb ∷ VxHxEvIb ∷ EvVxIb
+    ∷ HxUxIb ∷ UxIb ∷ VxMx ∷ VxMxIb ∷ MxVx ∷ VxHxMx ∷ VxHxMxIb ∷ MxHxVx ∷ VxHxUx ∷ VxHxUxIb ∷ UxHxVx ∷ VxUx ∷ VxUxIb
+    ∷ UxVx ∷ VxEv ∷ EvVx ∷ VxEvIb ∷ VxHxEvIb ∷ EvVxIb
     ∷ VxRv ∷ GvUx ∷ GvUxIb ∷ VxVm ∷ VxVmHx ∷ VmVx ∷ KxHxWx ∷ KxHxWxIb ∷ KxUx ∷ VxKx ∷ KxKx ∷ KxKxKx ∷ KxKxIb ∷ KxKm
     ∷ MxKx ∷ KxRv ∷ GvKx ∷ []
 

@@ -278,6 +278,10 @@ fn opcodes_have_their_shapes(rt: HostRuntime) {
         (1, 0xfc, Some((true, 0))),
         (2, 0x08, Some((true, 0))),
         (1, 0x77, None),
+        // PEXTRW and PALIGNR.
+        (1, 0xc5, Some((true, 1))),
+        (3, 0x0f, Some((true, 1))),
+        (3, 0x08, None),
     ] {
         let found = shape(Class::Legacy, map, opcode).map(|s| (s.modrm, s.imm));
         assert!(rt; found == want, "at {opcode} of map {map}");
@@ -288,7 +292,7 @@ fn opcodes_have_their_shapes(rt: HostRuntime) {
     let zero = shape(Class::Vex, 1, 0x77).map(|s| (s.modrm, s.imm));
     assert!(rt; zero == Some((false, 0)));
     assert!(rt;
-        is_used(Class::Legacy, 2) && !is_used(Class::Legacy, 3) && !is_used(Class::Evex, 0)
+        is_used(Class::Legacy, 2) && is_used(Class::Legacy, 3) && !is_used(Class::Evex, 0)
     );
     assert!(rt; !is_used(Class::Vex, 0) && is_used(Class::Vex, 1) && is_used(Class::Vex, 3));
     // KMOV, KSHIFTRB and VPADDD.

@@ -4,6 +4,8 @@ use row_table::{BitOp, CoreOp, GprOp, Op, row};
 
 mod evex;
 mod opmasks;
+mod products;
+mod shuffles;
 mod vectors;
 
 /// The name of the operation, of those that the test meets.
@@ -44,6 +46,9 @@ fn name(op: Op) -> &'static str {
         Op::Core(CoreOp::Vzeroupper) => "vzeroupper",
         Op::Core(CoreOp::Vzeroall) => "vzeroall",
         Op::Lane(op) => vectors::lane_name(op),
+        Op::Cross(op) => shuffles::cross_name(op),
+        Op::Width(op) => products::width_name(op),
+        Op::Mac(op) => products::mac_name(op),
         Op::Vector(op) => vectors::vector_name(op),
         Op::Mask(op) => opmasks::mask_name(op),
         _ => "another",
@@ -478,6 +483,49 @@ fn instructions_on_opmasks_are_seen_as_the_assembler_writes_them(rt: HostRuntime
 #[test]
 fn what_no_opmask_row_takes_is_refused(rt: HostRuntime) {
     for bytes in opmasks::masks_refused() {
+        assert_eq!(rt; told_of(bytes), BAD, "at {bytes:?}");
+    }
+}
+
+#[test]
+fn instructions_that_move_lanes_are_seen_as_the_assembler_writes_them(rt: HostRuntime) {
+    for (bytes, want) in shuffles::shuffle_bytes() {
+        assert_eq!(rt; vex_told_of(bytes), Some(*want), "at {bytes:?}");
+    }
+    for (bytes, want) in shuffles::part_bytes() {
+        assert_eq!(rt; vex_told_of(bytes), Some(*want), "at {bytes:?}");
+    }
+    for (bytes, want) in shuffles::wide_shuffle_bytes() {
+        assert_eq!(rt; vex_told_of(bytes), Some(*want), "at {bytes:?}");
+    }
+    for (bytes, want) in shuffles::wide_part_bytes() {
+        assert_eq!(rt; vex_told_of(bytes), Some(*want), "at {bytes:?}");
+    }
+}
+
+#[test]
+fn what_no_row_that_moves_lanes_takes_is_refused(rt: HostRuntime) {
+    for bytes in shuffles::shuffles_refused() {
+        assert_eq!(rt; told_of(bytes), BAD, "at {bytes:?}");
+    }
+    for bytes in shuffles::wide_shuffles_refused() {
+        assert_eq!(rt; told_of(bytes), BAD, "at {bytes:?}");
+    }
+}
+
+#[test]
+fn products_and_widths_are_seen_as_the_assembler_writes_them(rt: HostRuntime) {
+    for (bytes, want) in products::product_bytes() {
+        assert_eq!(rt; vex_told_of(bytes), Some(*want), "at {bytes:?}");
+    }
+    for (bytes, want) in products::width_bytes() {
+        assert_eq!(rt; vex_told_of(bytes), Some(*want), "at {bytes:?}");
+    }
+}
+
+#[test]
+fn what_no_row_of_products_and_widths_takes_is_refused(rt: HostRuntime) {
+    for bytes in products::products_refused() {
         assert_eq!(rt; told_of(bytes), BAD, "at {bytes:?}");
     }
 }
