@@ -1,5 +1,5 @@
 -- Every row of the table is performed, and so its instructions aren't undefined.
-use Rattle.std.proofs.Common.{◌≡◌, ℕ, zero, suc, Bool, true, false, ◌&&◌, cond, nat_lt, List, [], ◌∷◌, slice_get, refl, sym, subst, ◌∙◌}
+use Rattle.std.proofs.Common.{◌≡◌, ◌/◌, ℕ, zero, suc, Bool, true, false, ◌&&◌, cond, nat_lt, List, [], ◌∷◌, slice_get, refl, sym, subst, ◌∙◌}
 use Rattle.std.proofs.Common.{Some as some}
 use Rattle.std.proofs.lemmas.Bool.{and_parts}
 use Rattle.gpr_flags.specs.declared.kinds.Flags.{Flags}
@@ -22,6 +22,7 @@ use Rattle.row_table.specs.declared.operations.BitOp.TheVariants.{Rol}
 use Rattle.row_table.specs.declared.operations.MaskOp.{MaskOp}
 use Rattle.row_table.specs.declared.operations.MaskOp.TheVariants.{Kand}
 use Rattle.row_table.specs.Letters.{layout_of, letters}
+use Rattle.row_table.specs.Spelling.{writes_rm}
 use Rattle.row_table.specs.Legacy.{legacy, one_byte, two_byte, three_byte}
 use Rattle.row_table.specs.Vex.{vex_rows, vex_0f, vex_0f38, vex_0f3a}
 use Rattle.row_table.specs.Evex.{evex_rows, evex_0f, evex_0f38, evex_0f3a}
@@ -42,9 +43,10 @@ use Rattle.core_step.specs.Plan.{core_way, way_of, plan_by, plan_of, next_of, ef
 use Rattle.core_step.specs.Result.{gives, faults, core_outcome, gpr_outcome, bit_outcome, mask_outcome, outcome_by, outcome_of}
 use Rattle.core_step.specs.Effect.{Processor}
 use Rattle.core_step.specs.Plain.{outcome_in}
-use Rattle.core_step.specs.Performed.{core_performed, is_performed, are_placed, are_vectors_placed, suits, IsPerformed}
+use Rattle.core_step.specs.Performed.{core_performed, is_performed, are_placed, are_vectors_placed, is_choice_placed, suits, IsPerformed}
 use Rattle.vec_units.specs.Compute.{is_vector}
-use Rattle.vec_units.specs.Form.{IsVectorRow}
+use Rattle.gpr_flags.specs.Registers.{is_size}
+use Rattle.vec_units.specs.Form.{IsVectorRow, memory_width}
 use Rattle.vec_step.specs.declared.kinds.Clearing.TheVariants.{Upper, All}
 use Rattle.vec_step.specs.Plan.{spots_of}
 
@@ -59,7 +61,7 @@ all_performed [] = true
 all_performed (row ∷ rest) = is_row_performed row && all_performed rest
 
 rows-performed : all_performed rows ≡ true
-unfolding all_performed is_performed core_performed core_way spots_of core_roles gpr_roles bit_roles mask_roles layout_of letters rows legacy one_byte two_byte three_byte vex_rows vex_0f vex_0f38 vex_0f3a evex_rows evex_0f evex_0f38 evex_0f3a
+unfolding all_performed is_performed core_performed core_way spots_of core_roles gpr_roles bit_roles mask_roles writes_rm layout_of letters rows legacy one_byte two_byte three_byte vex_rows vex_0f vex_0f38 vex_0f3a evex_rows evex_0f evex_0f38 evex_0f3a
 rows-performed = refl
 
 same_row : (row other : Row) → some row ≡ some other → row ≡ other
@@ -90,6 +92,9 @@ vectors-op : (op : Op) → way_of op ≡ Vectors → is_vector op ≡ true
 unfolding is_vector
 vectors-op (Lane op) is = refl
 vectors-op (Vector op) is = refl
+vectors-op (Cross op) is = refl
+vectors-op (Width op) is = refl
+vectors-op (Mac op) is = refl
 vectors-op (Core op) is = absurd (core-away op is)
 vectors-op op is = cc
 
@@ -97,7 +102,9 @@ vectors-op op is = cc
 pub row-vectors : (row : Row) → IsPerformed row → way_of row.op ≡ Vectors → IsVectorRow row
 row-vectors row performed is =
     let fits : suits Vectors row ≡ true = subst (λ (way : Way). suits way row ≡ true) is performed.way in
-    record { op = vectors-op row.op is; width = (and_parts (are_vectors_placed (layout_of row.operands)) _ fits).1 }
+    let placed = are_vectors_placed (layout_of row.operands) && is_choice_placed row.mask (layout_of row.operands) in
+    let sizes = and_parts (is_size (row.width / 8)) (is_size (memory_width row)) (and_parts placed _ fits).1 in
+    record { op = vectors-op row.op is; width = sizes.0; memory = sizes.1 }
 
 -- ---- outcomes
 abbrev pub IsDefined : Acted → Type 0
@@ -148,6 +155,9 @@ outcome-defined (Mask op) i a b c flags steps h = mask-defined op i a b c flags
 outcome-defined (String op) i a b c flags steps h = absurd (let clash : Strings op ≡ Numbers = h.1 in cc)
 outcome-defined (Lane op) i a b c flags steps h = absurd (let clash : Vectors ≡ Numbers = h.1 in cc)
 outcome-defined (Vector op) i a b c flags steps h = absurd (let clash : Vectors ≡ Numbers = h.1 in cc)
+outcome-defined (Cross op) i a b c flags steps h = absurd (let clash : Vectors ≡ Numbers = h.1 in cc)
+outcome-defined (Width op) i a b c flags steps h = absurd (let clash : Vectors ≡ Numbers = h.1 in cc)
+outcome-defined (Mac op) i a b c flags steps h = absurd (let clash : Vectors ≡ Numbers = h.1 in cc)
 outcome-defined op i a b c flags steps h = absurd (let clash : false ≡ true = h.0 in cc)
 
 -- XCHG of rAX with itself is the no-operation, which is performed

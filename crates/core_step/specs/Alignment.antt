@@ -5,13 +5,10 @@ use Rattle.row_table.specs.declared.kinds.Align.{Align}
 use Rattle.row_table.specs.declared.kinds.Align.TheVariants.{Free, Sixteen, Size}
 use Rattle.row_table.specs.declared.kinds.Row.{Row}
 use Rattle.row_table.specs.declared.kinds.Decoded.{Decoded}
+use Rattle.row_table.specs.Tuples.{vector_bytes}
 use Rattle.core_step.specs.Address.{is_memory}
 use Rattle.core_step.specs.Vectors.{address_in}
 use Rattle.core_step.specs.Plan.{next_of}
-
--- how many bytes a vector has, by L (SDM volume 2, 2.3.6 and 2.7.1)
-abbrev pub vector_bytes : (l : ℕ) → ℕ
-vector_bytes l = if l == 0 then 16 else if l == 1 then 32 else 64
 
 -- whether an address isn't the multiple that the row's rule wants
 abbrev pub breaks : Align → (l addr : ℕ) → Bool

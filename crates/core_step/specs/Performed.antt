@@ -4,6 +4,7 @@ use Rattle.gpr_flags.specs.Registers.{is_size}
 use Rattle.row_table.specs.declared.kinds.Spot.{Spot}
 use Rattle.row_table.specs.declared.kinds.Spot.TheVariants.{Absent as NoSpot, Reg, Rm, Vvvv, OpcodeReg, Rax as AtRax, Cl, Memory, VectorMemory, Offset, Immediate, Relative, One, VectorReg, VectorRm, VectorVvvv, VectorImmediate, Xmm0, OpmaskReg, OpmaskRm, OpmaskVvvv}
 use Rattle.row_table.specs.declared.kinds.Layout.{Layout}
+use Rattle.row_table.specs.declared.kinds.MaskKind.{MaskKind}
 use Rattle.row_table.specs.declared.kinds.Row.{Row}
 use Rattle.row_table.specs.Letters.{layout_of}
 use Rattle.row_table.specs.declared.operations.Op.{Op}
@@ -17,7 +18,8 @@ use Rattle.core_step.specs.Roles.{roles_of}
 use Rattle.core_step.specs.declared.ways.Way.{Way}
 use Rattle.core_step.specs.declared.ways.Way.TheVariants.{Numbers, Strings, Pair, Vectors, Clears}
 use Rattle.core_step.specs.Plan.{way_of}
-use Rattle.vec_step.specs.Plan.{is_immediate, has_two_sources, spots_of}
+use Rattle.vec_units.specs.Form.{chooses, memory_width}
+use Rattle.vec_step.specs.Plan.{is_immediate, is_xmm0, is_register_by_immediate, has_two_sources, spots_of}
 
 -- ---- operations
 unfoldable pub core_performed : CoreOp → Bool
@@ -76,9 +78,9 @@ is_performed (Gpr op) = true
 is_performed (Bits op) = true
 is_performed (String op) = true
 is_performed (Lane op) = true
-is_performed (Cross op) = false
-is_performed (Width op) = false
-is_performed (Mac op) = false
+is_performed (Cross op) = true
+is_performed (Width op) = true
+is_performed (Mac op) = true
 is_performed (Mask op) = true
 is_performed (Vector op) = true
 is_performed (Gather op) = false
@@ -205,17 +207,32 @@ is_opmask OpmaskReg = true
 is_opmask OpmaskRm = false
 is_opmask OpmaskVvvv = false
 
+-- what stands there is an opmask that a vector instruction takes, or a number by itself
+abbrev pub is_opmask_source : Spot → Bool
+is_opmask_source OpmaskRm = true
+is_opmask_source spot = false
+
+abbrev pub is_number : Spot → Bool
+is_number spot = is_immediate spot || is_opmask_source spot
+
 -- the destination and the second source have places, and so has the first, where it isn't the destination
 abbrev pub are_vectors_placed : Layout → Bool
 are_vectors_placed layout =
     (is_vector (spots_of layout).destination
     || (is_scalar (spots_of layout).destination || is_opmask (spots_of layout).destination))
     && ((not (has_two_sources layout) || is_vector (spots_of layout).first)
-    && (is_vector (spots_of layout).second || (is_scalar (spots_of layout).second || is_immediate (spots_of layout).second)))
+    && (is_vector (spots_of layout).second || (is_scalar (spots_of layout).second || is_number (spots_of layout).second)))
 
--- a row on vectors has such operands, and lanes of 1, 2, 4 or 8 bytes
+-- the register whose signs choose between the sources has a place
+abbrev pub is_choice_placed : MaskKind → Layout → Bool
+is_choice_placed kind layout =
+    not (chooses kind) || (is_xmm0 layout.third.spot || is_register_by_immediate layout.fourth.spot)
+
+-- a row on vectors has such operands, and lanes and elements in memory of 1, 2, 4 or 8 bytes
 abbrev pub suits : Way → Row → Bool
-suits Vectors row = are_vectors_placed (layout_of row.operands) && is_size (row.width / 8)
+suits Vectors row =
+    (are_vectors_placed (layout_of row.operands) && is_choice_placed row.mask (layout_of row.operands))
+    && (is_size (row.width / 8) && is_size (memory_width row))
 suits Numbers row = true
 suits (Strings op) row = true
 suits Pair row = true

@@ -1,28 +1,16 @@
 //! Where an instruction's operand in memory may stand.
-ghost use Rattle.std.specs.Prelude.{◌≡◌, ◌<◌, ◌&&◌};
+ghost use Rattle.std.specs.Prelude.{◌≡◌, ◌&&◌};
 ghost use Rattle.machine_state.specs.Memory.{Swap};
 ghost use Rattle.core_step.specs.Address.{is_memory as names_memory};
 ghost use Rattle.core_step.specs.Vectors.{address_in};
 ghost use Rattle.core_step.specs.Plan.{next_of};
-ghost use Rattle.core_step.specs.Alignment.{vector_bytes as bytes_of_vector, breaks as breaks_rule, is_misaligned as is_misaligned_by};
+ghost use Rattle.core_step.specs.Alignment.{breaks as breaks_rule, is_misaligned as is_misaligned_by};
 ghost use Rattle.core_step.specs.Fits.{RegistersFit};
 ghost use Rattle.core_step.specs.Machine.{state_of};
 
 use crate::addressing::is_memory;
 use crate::machine::Machine;
-use row_table::{Align, Decoded, Fields, Row};
-
-// How many bytes a vector has.
-fn vector_bytes(l: u8) -> u64
-    ensures value { result ≡ bytes_of_vector l }
-    ensures some { 0 < result }
-{
-    match l {
-        0 => 16,
-        1 => 32,
-        _ => 64,
-    }
-}
+use row_table::{Align, Decoded, Fields, Row, vector_bytes};
 
 // Whether an address isn't the multiple that a rule wants.
 fn breaks(align: Align, l: u8, addr: u64) -> bool
@@ -31,7 +19,7 @@ fn breaks(align: Align, l: u8, addr: u64) -> bool
     match align {
         Align::Free => false,
         Align::Sixteen => addr % 16 != 0,
-        Align::Size => addr % vector_bytes(l) != 0,
+        Align::Size => addr % u64::from(vector_bytes(l)) != 0,
     }
 }
 

@@ -85,15 +85,8 @@ impl Way {
         match op {
             Op::Core(op) => Way::of_core(op),
             Op::String(op) => Way::Strings(op),
-            Op::Lane(_) | Op::Vector(_) => Way::Vectors,
-            Op::Gpr(_)
-            | Op::Bit(_)
-            | Op::Cross(_)
-            | Op::Width(_)
-            | Op::Mac(_)
-            | Op::Mask(_)
-            | Op::Gather(_)
-            | Op::Xsave(_) => Way::Numbers,
+            Op::Lane(_) | Op::Cross(_) | Op::Width(_) | Op::Mac(_) | Op::Vector(_) => Way::Vectors,
+            Op::Gpr(_) | Op::Bit(_) | Op::Mask(_) | Op::Gather(_) | Op::Xsave(_) => Way::Numbers,
         }
     }
 }

@@ -6,7 +6,8 @@ use crate::kinds::Tuple;
 
 /// The bytes of a vector, by L of VEX and L'L of EVEX.
 pub fn vector_bytes(l: u8) -> u8
-    ensures { result ≡ vector_bytes_spec l }
+    ensures value { result ≡ vector_bytes_spec l }
+    ensures some { 0 < result }
 {
     match l {
         0 => 16,
