@@ -1,5 +1,5 @@
 -- The system calls, by their arguments, and the call write, by what its access is answered.
-use Rattle.std.proofs.Common.{◌≡◌, ◌∙◌, ℕ, ◌%◌, ◌^◌, List, [], Option, Some, None, Ok, Err, refl, sym, ap, subst}
+use Rattle.std.proofs.Common.{◌≡◌, ◌∙◌, ℕ, ◌%◌, ◌^◌, Bool, true, false, is_none, if◌then◌else◌, List, [], Option, Some, None, Ok, Err, refl, sym, ap, subst}
 use Rattle.std.proofs.lemmas.Bool.{ne_eqb}
 use Rattle.machine_state.specs.declared.kinds.GuestEnd.TheVariants.{Exit}
 use Rattle.host_edge.specs.declared.outside.HostCall.{HostCall}
@@ -58,15 +58,18 @@ written_stream-is from s number stream first state is_number is_stream =
     is_stream ∙ ap (λ (n : ℕ). stream_in (n % 2 ^ 32) (place_at first_descriptors (n % 2 ^ 32))) (is_number ∙ ap rdi state)
     ∙ ap (λ (places : List (Option Place)). stream_in (rdi from.state % 2 ^ 32) (place_at places (rdi from.state % 2 ^ 32))) (sym first)
 
+abbrev no_stream : Option Stream
+no_stream = None
+
+none_either : (file : Bool) → (if file then no_stream else no_stream) ≡ no_stream
+none_either true = refl
+none_either false = refl
+
 -- a number that is neither 1 nor 2 has no stream that can be written to
 pub stream_in-none : (number : ℕ) (place : Option Place) → (number ≡ 1 → ⊥) → (number ≡ 2 → ⊥) → stream_in number place ≡ None
 stream_in-none number None not_out not_err = refl
 stream_in-none number (Some place) not_out not_err =
     rw (ne_eqb number 1 not_out, ne_eqb number 2 not_err) (none_either (is_none place.file))
-
-none_either : (file : Bool) → (if file then None {A = Stream} else None) ≡ None
-none_either true = refl
-none_either false = refl
 
 -- ---- a system call by its number
 module _ (P : Ran → List HostCall → Type 0) (w : World) where

@@ -1,6 +1,5 @@
 -- The counts of failed calls, from a load to the end of a command.
-use Rattle.std.proofs.Common.{◌≡◌, ◌∙◌, ◌+◌, ap, subst, sym, arith, refl, ℕ, suc, List, [], ◌∷◌, true, false, Option, Some, None, IsTrue}
-use Rattle.std.specs.List.{Contains}
+use Rattle.std.proofs.Common.{◌≡◌, ap, subst, arith, refl, ℕ, suc, List, [], ◌∷◌, true, false, Option, Some, None, IsTrue}
 use Rattle.host_edge.specs.declared.outside.HostCall.{HostCall}
 use Rattle.host_edge.specs.declared.outside.HostCall.TheVariants.{Load, PutOut, PutErr}
 use Rattle.host_edge.specs.Causes.{Counts, Rose}

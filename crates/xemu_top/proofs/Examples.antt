@@ -4,6 +4,7 @@ use Rattle.std.specs.Option.{option_map}
 use Rattle.host_edge.specs.declared.outside.HostCall.{HostCall}
 use Rattle.host_edge.specs.declared.outside.HostCall.TheVariants.{Load, PutOut}
 use Rattle.machine_state.specs.Memory.{first_miss, bytes_at, allowed_run}
+use Rattle.machine_state.specs.World.{first_descriptors}
 use Rattle.machine_state.specs.State.{State}
 use Rattle.row_table.specs.Legacy.{legacy, one_byte, two_byte, three_byte}
 use Rattle.row_table.specs.Vex.{vex_rows, vex_0f, vex_0f38, vex_0f3a}
@@ -89,19 +90,19 @@ shown outcome = record {
 -- it prints its text and exits
 hello-runs : shown (command 1000000000000 run_h (with_file hello))
     ≡ record { end = Exit 0; status = 0; output = hello_text; steps = Some 8 }
-unfolding command image_fits header_fits sizes_fit entry_of image_memory first_state first_world run step called put_bytes put_answer allowed_run first_miss bytes_at act fetched performed performed_as is_misaligned plan_of core_way instruction_of instruction_by operand_for operand_at core_roles gpr_roles base_of scaled_index offset_of address_of accesses_of first_fault value_of core_outcome gpr_outcome scalar_of alu_scalar outcome_of gprs_left byte_left seen scanned within_limit fields_at lead_at in_front after head_at escape_at shaped_head of_rex shape_at tail_at optional_at chunk_at fields_of number_of signed_of encoding_of spelled matched fits lock_fits operation_locks writes_rm layout_of letters rows legacy one_byte two_byte three_byte vex_rows vex_0f vex_0f38 vex_0f3a evex_rows evex_0f evex_0f38 evex_0f3a evex_0f38 evex_0f3a
+unfolding command image_fits header_fits sizes_fit entry_of image_memory first_state first_world first_descriptors run step called put_bytes put_answer allowed_run first_miss bytes_at act fetched performed performed_as is_misaligned plan_of core_way instruction_of instruction_by operand_for operand_at core_roles gpr_roles base_of scaled_index offset_of address_of accesses_of first_fault value_of core_outcome gpr_outcome scalar_of alu_scalar outcome_of gprs_left byte_left seen scanned within_limit fields_at lead_at in_front after head_at escape_at shaped_head of_rex shape_at tail_at optional_at chunk_at fields_of number_of signed_of encoding_of spelled matched fits lock_fits operation_locks writes_rm layout_of letters rows legacy one_byte two_byte three_byte vex_rows vex_0f vex_0f38 vex_0f3a evex_rows evex_0f evex_0f38 evex_0f3a
 hello-runs = refl
 
 -- three steps are before its first call
 hello-after_three : shown (command 3 run_h (with_file hello))
     ≡ record { end = Budget; status = 75; output = []; steps = Some 3 }
-unfolding command image_fits header_fits sizes_fit entry_of image_memory first_state first_world run step called put_bytes put_answer allowed_run first_miss bytes_at act fetched performed performed_as is_misaligned plan_of core_way instruction_of instruction_by operand_for operand_at core_roles gpr_roles base_of scaled_index offset_of address_of accesses_of first_fault value_of core_outcome gpr_outcome scalar_of alu_scalar outcome_of gprs_left byte_left seen scanned within_limit fields_at lead_at in_front after head_at escape_at shaped_head of_rex shape_at tail_at optional_at chunk_at fields_of number_of signed_of encoding_of spelled matched fits lock_fits operation_locks writes_rm layout_of letters rows legacy one_byte two_byte three_byte vex_rows vex_0f vex_0f38 vex_0f3a evex_rows evex_0f evex_0f38 evex_0f3a evex_0f38 evex_0f3a
+unfolding command image_fits header_fits sizes_fit entry_of image_memory first_state first_world first_descriptors run step called put_bytes put_answer allowed_run first_miss bytes_at act fetched performed performed_as is_misaligned plan_of core_way instruction_of instruction_by operand_for operand_at core_roles gpr_roles base_of scaled_index offset_of address_of accesses_of first_fault value_of core_outcome gpr_outcome scalar_of alu_scalar outcome_of gprs_left byte_left seen scanned within_limit fields_at lead_at in_front after head_at escape_at shaped_head of_rex shape_at tail_at optional_at chunk_at fields_of number_of signed_of encoding_of spelled matched fits lock_fits operation_locks writes_rm layout_of letters rows legacy one_byte two_byte three_byte vex_rows vex_0f vex_0f38 vex_0f3a evex_rows evex_0f evex_0f38 evex_0f3a
 hello-after_three = refl
 
 -- its last step ends it at that budget too
 hello-after_eight : shown (command 8 run_h (with_file hello))
     ≡ record { end = Exit 0; status = 0; output = hello_text; steps = Some 8 }
-unfolding command image_fits header_fits sizes_fit entry_of image_memory first_state first_world run step called put_bytes put_answer allowed_run first_miss bytes_at act fetched performed performed_as is_misaligned plan_of core_way instruction_of instruction_by operand_for operand_at core_roles gpr_roles base_of scaled_index offset_of address_of accesses_of first_fault value_of core_outcome gpr_outcome scalar_of alu_scalar outcome_of gprs_left byte_left seen scanned within_limit fields_at lead_at in_front after head_at escape_at shaped_head of_rex shape_at tail_at optional_at chunk_at fields_of number_of signed_of encoding_of spelled matched fits lock_fits operation_locks writes_rm layout_of letters rows legacy one_byte two_byte three_byte vex_rows vex_0f vex_0f38 vex_0f3a evex_rows evex_0f evex_0f38 evex_0f3a evex_0f38 evex_0f3a
+unfolding command image_fits header_fits sizes_fit entry_of image_memory first_state first_world first_descriptors run step called put_bytes put_answer allowed_run first_miss bytes_at act fetched performed performed_as is_misaligned plan_of core_way instruction_of instruction_by operand_for operand_at core_roles gpr_roles base_of scaled_index offset_of address_of accesses_of first_fault value_of core_outcome gpr_outcome scalar_of alu_scalar outcome_of gprs_left byte_left seen scanned within_limit fields_at lead_at in_front after head_at escape_at shaped_head of_rex shape_at tail_at optional_at chunk_at fields_of number_of signed_of encoding_of spelled matched fits lock_fits operation_locks writes_rm layout_of letters rows legacy one_byte two_byte three_byte vex_rows vex_0f vex_0f38 vex_0f3a evex_rows evex_0f evex_0f38 evex_0f3a
 hello-after_eight = refl
 
 -- a piece of its work: the calls on the outside in it, and what stands on the output then
@@ -117,7 +118,7 @@ hello-trail : map (λ (piece : Piece). let shown : ShownPiece = record { calls =
     (trail 1000000000000 run_h (with_file hello))
     ≡ record { calls = Load 1 ∷ []; output = [] } ∷ quiet [] ∷ quiet [] ∷ quiet [] ∷ quiet []
     ∷ record { calls = PutOut ∷ []; output = hello_text } ∷ quiet hello_text ∷ quiet hello_text ∷ quiet hello_text ∷ []
-unfolding command trail run_trail calls_in_step calls_in_call image_fits header_fits sizes_fit entry_of image_memory first_state first_world run step called put_bytes put_answer allowed_run first_miss bytes_at act fetched performed performed_as is_misaligned plan_of core_way instruction_of instruction_by operand_for operand_at core_roles gpr_roles base_of scaled_index offset_of address_of accesses_of first_fault value_of core_outcome gpr_outcome scalar_of alu_scalar outcome_of gprs_left byte_left seen scanned within_limit fields_at lead_at in_front after head_at escape_at shaped_head of_rex shape_at tail_at optional_at chunk_at fields_of number_of signed_of encoding_of spelled matched fits lock_fits operation_locks writes_rm layout_of letters rows legacy one_byte two_byte three_byte vex_rows vex_0f vex_0f38 vex_0f3a evex_rows evex_0f evex_0f38 evex_0f3a
+unfolding command trail run_trail calls_in_step calls_in_call image_fits header_fits sizes_fit entry_of image_memory first_state first_world first_descriptors run step called put_bytes put_answer allowed_run first_miss bytes_at act fetched performed performed_as is_misaligned plan_of core_way instruction_of instruction_by operand_for operand_at core_roles gpr_roles base_of scaled_index offset_of address_of accesses_of first_fault value_of core_outcome gpr_outcome scalar_of alu_scalar outcome_of gprs_left byte_left seen scanned within_limit fields_at lead_at in_front after head_at escape_at shaped_head of_rex shape_at tail_at optional_at chunk_at fields_of number_of signed_of encoding_of spelled matched fits lock_fits operation_locks writes_rm layout_of letters rows legacy one_byte two_byte three_byte vex_rows vex_0f vex_0f38 vex_0f3a evex_rows evex_0f evex_0f38 evex_0f3a
 hello-trail = refl
 
 -- its first three bytes of code are 0F 58 C1, ADDPS, which no row has
@@ -127,7 +128,7 @@ unsupported = set (set (set hello 120 15) 121 88) 122 193
 -- the guest is killed by SIGILL
 unsupported-killed : shown (command 1000000000000 run_h (with_file unsupported))
     ≡ record { end = Killed 4; status = 132; output = []; steps = Some 1 }
-unfolding command image_fits header_fits sizes_fit entry_of image_memory first_state first_world run step called put_bytes put_answer allowed_run first_miss bytes_at act fetched performed performed_as is_misaligned plan_of core_way instruction_of instruction_by operand_for operand_at core_roles gpr_roles base_of scaled_index offset_of address_of accesses_of first_fault value_of core_outcome gpr_outcome scalar_of alu_scalar outcome_of gprs_left byte_left seen scanned within_limit fields_at lead_at in_front after head_at escape_at shaped_head of_rex shape_at tail_at optional_at chunk_at fields_of number_of signed_of encoding_of spelled matched fits lock_fits operation_locks writes_rm layout_of letters rows legacy one_byte two_byte three_byte vex_rows vex_0f vex_0f38 vex_0f3a evex_rows evex_0f evex_0f38 evex_0f3a evex_0f38 evex_0f3a
+unfolding command image_fits header_fits sizes_fit entry_of image_memory first_state first_world first_descriptors run step called put_bytes put_answer allowed_run first_miss bytes_at act fetched performed performed_as is_misaligned plan_of core_way instruction_of instruction_by operand_for operand_at core_roles gpr_roles base_of scaled_index offset_of address_of accesses_of first_fault value_of core_outcome gpr_outcome scalar_of alu_scalar outcome_of gprs_left byte_left seen scanned within_limit fields_at lead_at in_front after head_at escape_at shaped_head of_rex shape_at tail_at optional_at chunk_at fields_of number_of signed_of encoding_of spelled matched fits lock_fits operation_locks writes_rm layout_of letters rows legacy one_byte two_byte three_byte vex_rows vex_0f vex_0f38 vex_0f3a evex_rows evex_0f evex_0f38 evex_0f3a
 unsupported-killed = refl
 
 -- it asks for call 7 in the place of write, which answers ENOSYS
@@ -137,7 +138,7 @@ other_call = set hello 121 7
 -- it writes nothing and goes on
 other_call-goes_on : shown (command 1000000000000 run_h (with_file other_call))
     ≡ record { end = Exit 0; status = 0; output = []; steps = Some 8 }
-unfolding command image_fits header_fits sizes_fit entry_of image_memory first_state first_world run step called put_bytes put_answer allowed_run first_miss bytes_at act fetched performed performed_as is_misaligned plan_of core_way instruction_of instruction_by operand_for operand_at core_roles gpr_roles base_of scaled_index offset_of address_of accesses_of first_fault value_of core_outcome gpr_outcome scalar_of alu_scalar outcome_of gprs_left byte_left seen scanned within_limit fields_at lead_at in_front after head_at escape_at shaped_head of_rex shape_at tail_at optional_at chunk_at fields_of number_of signed_of encoding_of spelled matched fits lock_fits operation_locks writes_rm layout_of letters rows legacy one_byte two_byte three_byte vex_rows vex_0f vex_0f38 vex_0f3a evex_rows evex_0f evex_0f38 evex_0f3a evex_0f38 evex_0f3a
+unfolding command image_fits header_fits sizes_fit entry_of image_memory first_state first_world first_descriptors run step called put_bytes put_answer allowed_run first_miss bytes_at act fetched performed performed_as is_misaligned plan_of core_way instruction_of instruction_by operand_for operand_at core_roles gpr_roles base_of scaled_index offset_of address_of accesses_of first_fault value_of core_outcome gpr_outcome scalar_of alu_scalar outcome_of gprs_left byte_left seen scanned within_limit fields_at lead_at in_front after head_at escape_at shaped_head of_rex shape_at tail_at optional_at chunk_at fields_of number_of signed_of encoding_of spelled matched fits lock_fits operation_locks writes_rm layout_of letters rows legacy one_byte two_byte three_byte vex_rows vex_0f vex_0f38 vex_0f3a evex_rows evex_0f evex_0f38 evex_0f3a
 other_call-goes_on = refl
 
 -- its type is 4, a core file
@@ -147,5 +148,5 @@ core_file = set hello 16 4
 -- the image is refused
 core_file-refused : shown (command 1000000000000 run_h (with_file core_file))
     ≡ record { end = Image (record { number = 15; place = 0 }); status = 65; output = []; steps = None }
-unfolding command image_fits header_fits sizes_fit entry_of image_memory first_state first_world run step called put_bytes put_answer allowed_run first_miss bytes_at act fetched performed performed_as is_misaligned plan_of core_way instruction_of instruction_by operand_for operand_at core_roles gpr_roles base_of scaled_index offset_of address_of accesses_of first_fault value_of core_outcome gpr_outcome scalar_of alu_scalar outcome_of gprs_left byte_left seen scanned within_limit fields_at lead_at in_front after head_at escape_at shaped_head of_rex shape_at tail_at optional_at chunk_at fields_of number_of signed_of encoding_of spelled matched fits lock_fits operation_locks writes_rm layout_of letters rows legacy one_byte two_byte three_byte vex_rows vex_0f vex_0f38 vex_0f3a evex_rows evex_0f evex_0f38 evex_0f3a evex_0f38 evex_0f3a
+unfolding command image_fits header_fits sizes_fit entry_of image_memory first_state first_world first_descriptors run step called put_bytes put_answer allowed_run first_miss bytes_at act fetched performed performed_as is_misaligned plan_of core_way instruction_of instruction_by operand_for operand_at core_roles gpr_roles base_of scaled_index offset_of address_of accesses_of first_fault value_of core_outcome gpr_outcome scalar_of alu_scalar outcome_of gprs_left byte_left seen scanned within_limit fields_at lead_at in_front after head_at escape_at shaped_head of_rex shape_at tail_at optional_at chunk_at fields_of number_of signed_of encoding_of spelled matched fits lock_fits operation_locks writes_rm layout_of letters rows legacy one_byte two_byte three_byte vex_rows vex_0f vex_0f38 vex_0f3a evex_rows evex_0f evex_0f38 evex_0f3a
 core_file-refused = refl

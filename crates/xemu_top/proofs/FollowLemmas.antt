@@ -16,7 +16,6 @@ use Rattle.xemu_top.specs.Call.{Ran, goes_on, ends, answered, write_to, put_byte
 use Rattle.xemu_top.specs.Step.{counted}
 use Rattle.xemu_top.specs.Outside.{Files, Outside, outside, IsTold, IsOutside}
 use Rattle.xemu_top.specs.Streams.{Sends}
-use Rattle.xemu_top.specs.Tally.{Tally}
 use Rattle.xemu_top.specs.Following.{Course, Follows, HasState, StandsFor, Worked, sinks}
 
 -- what a stream has after all bytes were put

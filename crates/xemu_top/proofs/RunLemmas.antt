@@ -1,5 +1,5 @@
 -- A run, step by step.
-use Rattle.std.proofs.Common.{◌≡◌, ◌≤◌, ℕ, suc, List, [], ◌∷◌, Option, Some, None, is_some, Ok, Err, true, false, refl, sym, ◌∙◌, ap, subst, arith}
+use Rattle.std.proofs.Common.{◌≡◌, ◌≤◌, ℕ, suc, List, [], ◌∷◌, Option, Some, None, Ok, Err, refl, sym, ◌∙◌, ap, subst, arith}
 use Rattle.gpr_flags.specs.declared.kinds.Fault.{Fault}
 use Rattle.gpr_flags.specs.declared.kinds.Fault.TheVariants.{Divide, Breakpoint, Undefined, General, Page}
 use Rattle.machine_state.specs.declared.kinds.GuestEnd.{GuestEnd}
@@ -15,8 +15,7 @@ use Rattle.xemu_top.specs.Step.{step, calls_in_step, after_part, calls_after_par
 use Rattle.xemu_top.specs.Run.{run}
 use Rattle.xemu_top.specs.Outside.{Files, Outside, Leaves}
 use Rattle.xemu_top.specs.Trail.{Piece, piece_of, FailsIn, FailsOn, run_trail}
-use Rattle.xemu_top.specs.Tally.{Tally}
-use Rattle.xemu_top.specs.Following.{Course, Follows, LeadsTo, Runs, SinkPair, StandsFor, Worked, is_stopped, run_end, stopped_by}
+use Rattle.xemu_top.specs.Following.{Course, Follows, LeadsTo, Runs, SinkPair, StandsFor, Worked, run_end, stopped_by}
 
 -- no call fails where nothing is put
 pub course-none : (on : SinkPair) → Course on on None

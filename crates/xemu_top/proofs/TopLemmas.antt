@@ -4,7 +4,6 @@ use Rattle.machine_state.specs.declared.kinds.GuestEnd.{GuestEnd}
 use Rattle.host_edge.specs.declared.outside.HostCall.{HostCall}
 use Rattle.host_edge.specs.declared.outside.HostCall.TheVariants.{Load}
 use Rattle.machine_state.specs.Memory.{Swap}
-use Rattle.machine_state.specs.State.{State}
 use Rattle.machine_state.specs.World.{World}
 use Rattle.host_edge.specs.Files.{Held}
 use Rattle.core_step.specs.declared.machine.Machine.{Machine}
@@ -12,8 +11,8 @@ use Rattle.xemu_top.specs.declared.ends.End.{End}
 use Rattle.xemu_top.specs.declared.ends.Ended.{Ended}
 use Rattle.xemu_top.specs.declared.ends.RunEnd.{RunEnd}
 use Rattle.xemu_top.specs.Run.{run}
-use Rattle.xemu_top.specs.Outside.{Files, Outside, outside, IsOutside, Leaves}
-use Rattle.xemu_top.specs.Trail.{FailsOn, run_trail}
+use Rattle.xemu_top.specs.Outside.{Files, Outside, IsOutside, Leaves}
+use Rattle.xemu_top.specs.Trail.{FailsOn}
 use Rattle.xemu_top.specs.Command.{first_world, first_state, image_fits, end_of, command, trail, on_file, on_image, file_trail, image_trail, load_piece, words_fit, path_word, no_command, no_image}
 use Rattle.xemu_top.specs.Following.{EachSwap, HasState, Runs, StandsFor, is_stopped, run_end, end_from}
 use Rattle.xemu_top.specs.Headline.{Meets, MeetsWork, is_own, finished, machine_after}

@@ -6,7 +6,7 @@ use Rattle.xemu_top.specs.Step.{step}
 use Rattle.xemu_top.specs.Run.{run}
 use Rattle.xemu_top.specs.Outside.{Files, Outside, outside}
 use Rattle.xemu_top.specs.Trail.{HangTogether, Piece, run_trail}
-use Rattle.xemu_top.specs.Command.{command, on_file, on_image, trail, file_trail, image_trail, loaded_trail, load_piece, image_fits, first_world, words_fit, path_word}
+use Rattle.xemu_top.specs.Command.{command, on_file, on_image, trail, file_trail, image_trail, load_piece, image_fits, first_world, words_fit, path_word}
 use Rattle.xemu_top.proofs.RunLemmas.{run-goes_on, run-ends, run-none, run_trail-goes_on, run_trail-ends, run_trail-none, step_piece}
 
 hang-none : (on : Outside) → HangTogether on [] on

@@ -1,6 +1,6 @@
 -- The command: from the words, the host's files and the input to the end, the output and the machine that is left, and the trail of
 -- its work.
-use Rattle.std.specs.Prelude.{◌≡◌, ℕ, ◌+◌, ◌-◌, ◌*◌, ◌/◌, ◌==◌, ◌≤◌, Bool, true, not, if◌then◌else◌, List, [], ◌∷◌, length, nat_lt, nat_le, nat_eq, ◌&&◌, Option, Some, None, slice_index, slice_index_or, take, drop, replicate, IsTrue}
+use Rattle.std.specs.Prelude.{ℕ, ◌+◌, ◌-◌, ◌*◌, ◌/◌, ◌==◌, ◌≤◌, Bool, true, not, if◌then◌else◌, List, [], ◌∷◌, length, nat_lt, nat_le, nat_eq, ◌&&◌, Option, Some, None, slice_index, slice_index_or, take, drop, replicate}
 use Rattle.std.specs.Cmp.Lexicographic.{pointwise}
 use Rattle.std.specs.List.{list_any, starts_with}
 use Rattle.byteorder.specs.Endian.{little_number}

@@ -1,8 +1,5 @@
-use Rattle.std.proofs.Common.{◌%◌, ◌^◌, ◌∙◌, ap, min, refl, ℕ, List, None, Option, Ok}
-use Rattle.host_edge.specs.declared.outside.HostCall.{HostCall}
-use Rattle.machine_state.specs.World.{World, first_descriptors, place_at}
+use Rattle.std.proofs.Common.{◌∙◌, ap, min, refl, ℕ, None, Some, Option, Ok}
 use Rattle.xemu_top.specs.declared.calls.Stream.{Stream}
-use Rattle.xemu_top.specs.Streams.{stream_in}
 use Rattle.xemu_top.specs.Call.{answered, bad_descriptor, goes_on, write_to, calls_in_write, rdx, rsi, write_count, written_stream, longest_transfer}
 use Rattle.xemu_top.specs.Outside.{IsOutside}
 use Rattle.xemu_top.specs.Following.{Follows}
