@@ -205,6 +205,9 @@ fn memory_of(row: Row) -> Memory {
         Tuple::NoTuple => "vector",
         Tuple::Mem128 => "16 bytes",
         Tuple::T1S => "element",
+        Tuple::HalfMem => "half",
+        Tuple::QuarterMem => "quarter",
+        Tuple::EighthMem => "eighth",
         _ => "another",
     };
     (align, tuple, row.whole)
@@ -213,7 +216,7 @@ fn memory_of(row: Row) -> Memory {
 /// The last F2 or F3 and 66 of a legacy instruction, pp and L of the same in VEX, then map and opcode, and what the two rows say
 /// of their operand in memory.
 #[rattlefmt::skip]
-static VECTOR_MEMORY: [(u8, bool, u8, u8, u8, u8, Memory, Memory); 14] = [
+static VECTOR_MEMORY: [(u8, bool, u8, u8, u8, u8, Memory, Memory); 24] = [
     // PADDB, PAND, PABSB and PTEST.
     (0, true, 1, 1, 1, 0xfc, ("sixteen", "vector", false), ("free", "vector", false)),
     (0, true, 1, 0, 1, 0xdb, ("sixteen", "vector", false), ("free", "vector", false)),
@@ -232,6 +235,18 @@ static VECTOR_MEMORY: [(u8, bool, u8, u8, u8, u8, Memory, Memory); 14] = [
     (0, false, 0, 0, 1, 0x16, ("free", "element", false), ("free", "element", false)),
     (0xf2, false, 3, 0, 1, 0x12, ("free", "element", false), ("free", "element", false)),
     (0xf2, false, 3, 1, 1, 0x12, ("free", "element", false), ("free", "vector", false)),
+    // PSHUFB, PALIGNR, SHUFPS and MPSADBW; PMADDWD and PSADBW, which read all of it.
+    (0, true, 1, 1, 2, 0x00, ("sixteen", "vector", false), ("free", "vector", false)),
+    (0, true, 1, 1, 3, 0x0f, ("sixteen", "vector", false), ("free", "vector", false)),
+    (0, false, 0, 1, 1, 0xc6, ("sixteen", "vector", false), ("free", "vector", false)),
+    (0, true, 1, 0, 3, 0x42, ("sixteen", "vector", false), ("free", "vector", false)),
+    (0, true, 1, 1, 1, 0xf5, ("sixteen", "vector", true), ("free", "vector", true)),
+    (0, true, 1, 1, 1, 0xf6, ("sixteen", "vector", true), ("free", "vector", true)),
+    // PMOVSXBW, PMOVSXBD and PMOVZXBQ, which have a part of a vector; and PINSRB.
+    (0, true, 1, 1, 2, 0x20, ("free", "half", false), ("free", "half", false)),
+    (0, true, 1, 0, 2, 0x21, ("free", "quarter", false), ("free", "quarter", false)),
+    (0, true, 1, 1, 2, 0x32, ("free", "eighth", false), ("free", "eighth", false)),
+    (0, true, 1, 0, 3, 0x20, ("free", "element", false), ("free", "element", false)),
 ];
 
 fn vector_memory() -> &'static [(u8, bool, u8, u8, u8, u8, Memory, Memory)] {
@@ -291,9 +306,7 @@ fn opcodes_have_their_shapes(rt: HostRuntime) {
     // VZEROUPPER and VZEROALL.
     let zero = shape(Class::Vex, 1, 0x77).map(|s| (s.modrm, s.imm));
     assert!(rt; zero == Some((false, 0)));
-    assert!(rt;
-        is_used(Class::Legacy, 2) && is_used(Class::Legacy, 3) && !is_used(Class::Evex, 0)
-    );
+    assert!(rt; is_used(Class::Legacy, 2) && is_used(Class::Legacy, 3) && !is_used(Class::Evex, 0));
     assert!(rt; !is_used(Class::Vex, 0) && is_used(Class::Vex, 1) && is_used(Class::Vex, 3));
     // KMOV, KSHIFTRB and VPADDD.
     let mask = shape(Class::Vex, 1, 0x90).map(|s| (s.modrm, s.imm));
