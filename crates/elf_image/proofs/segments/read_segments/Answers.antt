@@ -1,0 +1,43 @@
+use Rattle.std.specs.Option.{option_to_list}
+use Rattle.std.proofs.Common.{length-append, ◌+◌, ◌*◌, ◌≡◌, ◌∙◌, ◌++◌, List, Option, length, sym, ap, subst, arith, All, Some}
+use Rattle.std.proofs.lemmas.List.Elements.{All-nil, All-append}
+use Rattle.elf_image.specs.declared.kinds.Segment.{Segment}
+use Rattle.elf_image.specs.Segments.{segments_before, EndsLow}
+use Rattle.elf_image.specs.Fields.{header_place}
+use Rattle.elf_image.specs.Checks.{first_fault, header_checks}
+use Rattle.elf_image.proofs.CheckLemmas.{checks-none, segments-none, checks-on, segments-more, checks-stop, all-option, option-short, header-same, segment-same}
+use Rattle.elf_image.proofs.segments.read_segments.Goals as goal
+
+pub loop-number-init : goal.loop-number-init
+loop-number-init c = record {
+  passed = checks-none c.args.bytes.now;
+  segments = c.new-segments.ensures ∙ segments-none c.args.bytes.now;
+  most = omega (arith, ap length c.new-segments.ensures);
+  low = subst (All EndsLow) (sym c.new-segments.ensures) (All-nil EndsLow);
+}
+
+pub returns-in-Err-clause-answer : goal.returns-in-Err-clause-answer
+returns-in-Err-clause-answer c =
+    let bytes = c.args.bytes.now in
+    let n = c.loop-number.number in
+    checks-stop bytes c.in-Err.fault n _ (omega arith) c.loop-number.invariant.passed
+    (header-same bytes _ _ _ _ (sym (c.as_slice.ensures.value ∙ c.loop-number.invariant.segments)) (omega arith) ∙ c.in-Err.ensures.answer)
+
+pub loop-number-preserved : goal.loop-number-preserved
+loop-number-preserved c =
+    let bytes = c.args.bytes.now in
+    let n = c.loop-number.number in
+    let items = c.loop-number.segments.items in
+    let more = option_to_list c.in-Ok.segment in
+    let place : c.e_phoff.result + 56 * n ≡ header_place bytes n = omega arith in
+    record {
+      passed = checks-on bytes n c.loop-number.invariant.passed
+          (header-same bytes _ _ _ _ (sym (c.as_slice.ensures.value ∙ c.loop-number.invariant.segments)) (sym place) ∙ c.in-Ok.ensures.answer);
+      segments = c.add.ensures
+          ∙ ap (λ (xs : List Segment). xs ++ more) c.loop-number.invariant.segments
+          ∙ ap (λ (ys : List Segment). segments_before bytes n ++ ys) (c.in-Ok.ensures.segment ∙ segment-same bytes _ _ place)
+          ∙ sym (segments-more bytes n);
+      most = omega (arith, ap length c.add.ensures, length-append items more, option-short c.in-Ok.segment);
+      low = subst (All EndsLow) (sym c.add.ensures)
+          (All-append EndsLow items more c.loop-number.invariant.low (all-option EndsLow c.in-Ok.segment c.in-Ok.ensures.low));
+    }

@@ -1,0 +1,11 @@
+//! Program files: static ELF-64 executables for x86-64.
+#![tactic(auto)]
+
+mod checks;
+mod fields;
+mod image;
+mod kinds;
+mod segments;
+
+pub use image::read_image;
+pub use kinds::{Image, ImageFault, Segment};
