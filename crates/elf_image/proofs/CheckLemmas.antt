@@ -1,19 +1,17 @@
 -- Checks one after the other, and what they show.
-use Rattle.std.proofs.Common.{◌≡◌, ℕ, zero, suc, ◌+◌, ◌-◌, ◌*◌, ◌/◌, ◌%◌, ◌<◌, ◌≤◌, Bool, true, false, cond, not, ◌&&◌, ◌||◌, nat_le, nat_lt, List, [], ◌∷◌, ◌++◌, length, All, Option, Some, None, refl, sym, ◌∙◌, ap, subst, arith, add-one, lit<, length-append}
+use Rattle.std.proofs.Common.{◌≡◌, ℕ, zero, suc, ◌+◌, ◌-◌, ◌<◌, ◌≤◌, Bool, true, false, cond, nat_le, List, [], ◌∷◌, ◌++◌, length, All, Option, Some, None, refl, sym, ◌∙◌, ap, arith, add-one, lit<, length-append}
 use Rattle.std.specs.Int.RustNames.{bit_or}
 use Rattle.std.proofs.lemmas.List.{append-nil}
-use Rattle.std.specs.List.{list_all}
 use Rattle.std.specs.Option.{option_to_list, IfSome}
 use Rattle.std.proofs.lemmas.Bool.{and_parts, and_left, and_right, leb-true, eqb-true, ltb-true}
 use Rattle.std.proofs.lemmas.List.Elements.{All-nil, All-push, All-weaker}
 use Rattle.std.proofs.lemmas.List.Sums.{AllPass-from_list_all}
 use Rattle.gpr_flags.specs.Numbers.{has_bit}
-use Rattle.machine_state.specs.Memory.{page_size}
 use Rattle.elf_image.specs.declared.kinds.Segment.{Segment}
 use Rattle.elf_image.specs.declared.kinds.ImageFault.{ImageFault}
 use Rattle.elf_image.specs.Fields.{header_place, p_flags, p_vaddr, p_memsz}
-use Rattle.elf_image.specs.Segments.{is_load, takes_memory, perms_of, segment_at, first_page, end_page, segments_before, IsSegment, AreAscending, highest_address, base_of}
-use Rattle.elf_image.specs.Checks.{Check, check, first_fault, fits_file, is_placed, header_checks, program_checks}
+use Rattle.elf_image.specs.Segments.{takes_memory, perms_of, segment_at, first_page, end_page, segments_before, IsSegment, AreAscending, highest_address, base_of}
+use Rattle.elf_image.specs.Checks.{Check, first_fault, fits_file, is_placed, header_checks, program_checks}
 use Rattle.elf_image.proofs.SegmentLemmas.{ascending-push}
 
 -- what is said of one check's refusal and those behind it
@@ -58,7 +56,7 @@ checks-more bytes n = rw add-one refl
 
 pub segments-more : (bytes : List ℕ) (n : ℕ)
     → segments_before bytes (n + 1)
-      ≡ segments_before bytes n ++ cond (takes_memory bytes (header_place bytes n)) (segment_at bytes (header_place bytes n) ∷ []) []
+    ≡ segments_before bytes n ++ cond (takes_memory bytes (header_place bytes n)) (segment_at bytes (header_place bytes n) ∷ []) []
 unfolding segments_before
 segments-more bytes n = rw add-one refl
 
@@ -130,8 +128,8 @@ segment-is bytes earlier header takes fits placed =
     let p = and_parts _ _ placed in
     let q = and_parts _ _ p.0 in
     let r = and_parts _ _ q.0 in
-    let high : s.addr + s.mem_len ≤ highest_address = leb-true _ _ q.1 in
-    (record {
+    let high : s.addr + s.mem_len ≤ highest_address = leb-true _ _ q.1 in (
+      record {
         some = ltb-true 0 (p_memsz bytes header) (and_parts _ _ takes).1;
         shorter = leb-true _ _ f.0;
         within = leb-true _ _ f.1;
@@ -141,12 +139,13 @@ segment-is bytes earlier header takes fits placed =
         perms = perms-small (p_flags bytes header);
       },
       All-weaker (λ (before : Segment). nat_le (end_page before) (first_page s) ≡ true) (λ (before : Segment). end_page before ≤ first_page s)
-      (λ before h. leb-true _ _ h) earlier (AllPass-from_list_all (λ (before : Segment). nat_le (end_page before) (first_page s)) earlier p.1))
+          (λ before h. leb-true _ _ h) earlier (AllPass-from_list_all (λ (before : Segment). nat_le (end_page before) (first_page s)) earlier p.1),
+    )
 
 segments-push : (bytes : List ℕ) (xs : List Segment) (header : ℕ) → All (IsSegment (length bytes)) xs → AreAscending xs
     → first_fault (header_checks bytes xs header) ≡ None → (b : Bool) → takes_memory bytes header ≡ b
     → All (IsSegment (length bytes)) (xs ++ cond b (segment_at bytes header ∷ []) [])
-      × AreAscending (xs ++ cond b (segment_at bytes header ∷ []) [])
+    × AreAscending (xs ++ cond b (segment_at bytes header ∷ []) [])
 segments-push bytes xs header each ascending e true takes =
     let shown = checks-show bytes xs header e takes in
     let is = segment-is bytes xs header takes shown.0 shown.1 in
@@ -192,8 +191,12 @@ pub segments-short : (bytes : List ℕ) (n : ℕ) → length (segments_before by
 unfolding segments_before
 segments-short bytes zero = omega arith
 segments-short bytes (suc n) =
-    omega (arith, segments-short bytes n, length-append (segments_before bytes n) (cond (takes_memory bytes (header_place bytes n)) (segment_at bytes (header_place bytes n) ∷ []) []),
-      one-short (takes_memory bytes (header_place bytes n)) (segment_at bytes (header_place bytes n)))
+    omega (
+      arith,
+      segments-short bytes n,
+      length-append (segments_before bytes n) (cond (takes_memory bytes (header_place bytes n)) (segment_at bytes (header_place bytes n) ∷ []) []),
+      one-short (takes_memory bytes (header_place bytes n)) (segment_at bytes (header_place bytes n)),
+    )
   where
     one-short : (b : Bool) (s : Segment) → length (cond b (s ∷ []) []) ≤ 1
     one-short true s = omega arith

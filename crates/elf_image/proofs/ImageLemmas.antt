@@ -1,15 +1,14 @@
 -- The image that is read.
-use Rattle.std.proofs.Common.{◌≡◌, ℕ, zero, suc, ◌+◌, ◌-◌, ◌*◌, ◌/◌, ◌%◌, ◌^◌, ◌<◌, ◌≤◌, Bool, true, false, cond, nat_le, nat_lt, List, [], ◌∷◌, ◌++◌, length, All, Option, Some, None, Result, Ok, Err, refl, sym, ◌∙◌, ap, subst, arith, le_trans, mul-le-mul_left}
+use Rattle.std.proofs.Common.{◌≡◌, ℕ, ◌+◌, ◌*◌, ◌%◌, ◌^◌, ◌≤◌, Bool, true, false, cond, List, [], ◌∷◌, ◌++◌, length, All, Some, None, Ok, Err, refl, ◌∙◌, ap, arith, le_trans, mul-le-mul_left}
 use Rattle.std.proofs.lemmas.Bool.{and_parts, leb-true, ltb-true}
 use Rattle.std.proofs.lemmas.List.Elements.{All-nil, All-head, All-tail, All-cons, All-weaker}
 use Rattle.arrayvec.specs.ArrayVec.{ArrayVec}
 use Rattle.machine_state.specs.Memory.{page_size}
 use Rattle.elf_image.specs.declared.kinds.Segment.{Segment}
-use Rattle.elf_image.specs.declared.kinds.Image.{Image}
 use Rattle.elf_image.specs.declared.kinds.ImageFault.{ImageFault}
 use Rattle.elf_image.specs.Fields.{e_entry, e_phnum, header_place, file_header_size}
-use Rattle.elf_image.specs.Segments.{base_of, first_page, end_page, page_behind, segments_of, segments_before, headers_at, image_of, page_sum, stack_pages, longest_file, highest_address, EndsLow, IsSegment, AreAscending, IsImage}
-use Rattle.elf_image.specs.Checks.{Check, check, first_fault, identity_checks, file_checks, program_checks, has_room, checks, image_or, image_read}
+use Rattle.elf_image.specs.Segments.{base_of, first_page, end_page, page_behind, segments_of, headers_at, image_of, page_sum, stack_pages, longest_file, highest_address, EndsLow, IsSegment, AreAscending, IsImage}
+use Rattle.elf_image.specs.Checks.{check, first_fault, identity_checks, file_checks, program_checks, has_room, checks, image_or, image_read}
 use Rattle.elf_image.proofs.CheckLemmas.{fault-first, fault-next, fault-none, segments-are, segments-short}
 
 -- a file that passes each part of the checks

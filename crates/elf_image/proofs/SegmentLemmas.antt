@@ -1,9 +1,9 @@
 -- Segments in their order.
-use Rattle.std.proofs.Common.{◌≡◌, ℕ, zero, suc, ◌+◌, ◌-◌, ◌*◌, ◌/◌, ◌%◌, ◌<◌, ◌≤◌, Bool, true, false, cond, ◌&&◌, nat_le, nat_lt, List, [], ◌∷◌, ◌++◌, length, get_or, drop, All, Option, Some, None, refl, sym, ◌∙◌, ap, subst, arith, add-one, drop-cons, length-append}
+use Rattle.std.proofs.Common.{◌≡◌, ℕ, suc, ◌+◌, ◌-◌, ◌<◌, ◌≤◌, cond, List, [], ◌∷◌, ◌++◌, length, get_or, drop, All, Some, refl, ◌∙◌, ap, arith, add-one, drop-cons}
 use Rattle.std.specs.List.{slice_get}
-use Rattle.std.proofs.lemmas.List.Elements.{All-nil, All-head, All-tail, All-cons, All-push, All-weaker, All-append}
+use Rattle.std.proofs.lemmas.List.Elements.{All-nil, All-head, All-tail, All-push}
 use Rattle.elf_image.specs.declared.kinds.Segment.{Segment}
-use Rattle.elf_image.specs.Segments.{first_page, end_page, page_behind, has_headers, headers_at, AreAscending, IsSegment}
+use Rattle.elf_image.specs.Segments.{first_page, end_page, page_behind, has_headers, headers_at, AreAscending}
 use Rattle.elf_image.specs.Fields.{e_phoff}
 
 -- the page behind the last
@@ -17,7 +17,7 @@ page_behind-last (x ∷ (y ∷ ys)) s e =
 -- the program headers among the rest of the segments
 pub headers_at-drop : (bytes : List ℕ) (xs : List Segment) (i : ℕ) (d : Segment) → i < length xs
     → headers_at bytes (drop i xs)
-      ≡ cond (has_headers bytes (get_or xs i d)) ((get_or xs i d).addr + (e_phoff bytes - (get_or xs i d).file_at)) (headers_at bytes (drop (i + 1) xs))
+    ≡ cond (has_headers bytes (get_or xs i d)) ((get_or xs i d).addr + (e_phoff bytes - (get_or xs i d).file_at)) (headers_at bytes (drop (i + 1) xs))
 unfolding headers_at
 headers_at-drop bytes xs i d h = rw (add-one, drop-cons xs i d) refl
 
@@ -28,6 +28,7 @@ headers_at-none bytes = refl
 -- one segment more, above all others
 pub ascending-push : (xs : List Segment) (s : Segment) → AreAscending xs → All (λ x. end_page x ≤ first_page s) xs → AreAscending (xs ++ s ∷ [])
 ascending-push [] s a h = (All-nil (λ (next : Segment). end_page s ≤ first_page next), tt)
-ascending-push (x ∷ xs) s a h =
-    (All-push (λ (next : Segment). end_page x ≤ first_page next) xs s a.0 (All-head (λ (before : Segment). end_page before ≤ first_page s) x xs h),
-      ascending-push xs s a.1 (All-tail (λ (before : Segment). end_page before ≤ first_page s) x xs h))
+ascending-push (x ∷ xs) s a h = (
+  All-push (λ (next : Segment). end_page x ≤ first_page next) xs s a.0 (All-head (λ (before : Segment). end_page before ≤ first_page s) x xs h),
+  ascending-push xs s a.1 (All-tail (λ (before : Segment). end_page before ≤ first_page s) x xs h),
+)

@@ -6,7 +6,7 @@ use Rattle.machine_state.specs.Memory.{page_size}
 use Rattle.elf_image.specs.declared.kinds.Segment.{Segment}
 use Rattle.elf_image.specs.declared.kinds.Image.{Image}
 use Rattle.elf_image.specs.declared.kinds.ImageFault.{ImageFault}
-use Rattle.elf_image.specs.Fields.{field, ei_mag, ei_class, ei_data, ei_version, e_type, e_machine, e_version, e_phentsize, e_phnum, p_type, p_offset, p_filesz, p_memsz, file_header_size, header_size, header_place, magic, elfclass64, elfdata2lsb, ev_current, et_exec, et_dyn, em_x86_64, pt_interp}
+use Rattle.elf_image.specs.Fields.{ei_mag, ei_class, ei_data, ei_version, e_type, e_machine, e_version, e_phentsize, e_phnum, p_type, p_offset, p_filesz, p_memsz, file_header_size, header_size, header_place, magic, elfclass64, elfdata2lsb, ev_current, et_exec, et_dyn, em_x86_64, pt_interp}
 use Rattle.elf_image.specs.Segments.{is_load, takes_memory, segment_at, first_page, end_page, page_sum, segments_before, segments_of, image_of, lowest_address, highest_address, stack_pages, longest_file}
 
 -- a check: its number and place, by which a refusal names it, and whether the file passes it

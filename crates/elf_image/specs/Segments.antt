@@ -1,12 +1,11 @@
 -- The segments of an image, and the image that a file gives.
 use Rattle.std.specs.Prelude.{ℕ, zero, suc, ◌≡◌, ◌≤◌, ◌<◌, ◌+◌, ◌-◌, ◌*◌, ◌/◌, ◌%◌, ◌^◌, ◌==◌, Bool, ◌&&◌, nat_le, nat_lt, if◌then◌else◌, List, [], ◌∷◌, ◌++◌, length, All, sum_by}
 use Rattle.std.specs.Int.RustNames.{bit_or}
-use Rattle.arrayvec.specs.ArrayVec.{ArrayVec}
 use Rattle.gpr_flags.specs.Numbers.{has_bit}
 use Rattle.machine_state.specs.Memory.{page_size}
 use Rattle.elf_image.specs.declared.kinds.Segment.{Segment}
 use Rattle.elf_image.specs.declared.kinds.Image.{Image}
-use Rattle.elf_image.specs.Fields.{field, e_type, e_entry, e_phoff, e_phnum, p_type, p_flags, p_offset, p_vaddr, p_filesz, p_memsz, header_size, header_place, et_dyn, pt_load}
+use Rattle.elf_image.specs.Fields.{e_type, e_entry, e_phoff, e_phnum, p_type, p_flags, p_offset, p_vaddr, p_filesz, p_memsz, header_place, et_dyn, pt_load}
 
 -- where an image that can stand at any address is moved to (this program's own; Linux without address randomisation does the same)
 abbrev pub base_of : List ℕ → ℕ

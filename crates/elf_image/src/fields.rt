@@ -105,8 +105,13 @@ pub(crate) struct ProgramHeader {
 pub(crate) fn program_header(bytes: &[u8], place: usize) -> ProgramHeader
     requires { place + header_size ≤ length bytes.now }
     ensures { result ≡ record {
-        kind = p_type bytes.now place; flags = p_flags bytes.now place; offset = p_offset bytes.now place;
-        addr = p_vaddr bytes.now place; file_len = p_filesz bytes.now place; mem_len = p_memsz bytes.now place } }
+      kind = p_type bytes.now place;
+      flags = p_flags bytes.now place;
+      offset = p_offset bytes.now place;
+      addr = p_vaddr bytes.now place;
+      file_len = p_filesz bytes.now place;
+      mem_len = p_memsz bytes.now place;
+    } }
 {
     ProgramHeader {
         kind: field_u32(bytes, place),

@@ -9,3 +9,6 @@ mod segments;
 
 pub use image::read_image;
 pub use kinds::{Image, ImageFault, Segment};
+
+#[cfg(test)]
+mod tests;

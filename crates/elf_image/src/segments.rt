@@ -89,9 +89,7 @@ impl ProgramHeader {
     fn fits(&self, len: u64) -> bool
         ensures { result ≡ (nat_le self.now.file_len self.now.mem_len && nat_le (self.now.offset + self.now.file_len) len) }
     {
-        self.file_len <= self.mem_len
-            && self.offset <= len
-            && self.file_len <= len - self.offset
+        self.file_len <= self.mem_len && self.offset <= len && self.file_len <= len - self.offset
     }
 
     /// Whether its segment ends at the highest address at most, where it is moved up.
@@ -107,8 +105,12 @@ impl ProgramHeader {
     fn segment(&self, base: u64) -> Segment
         requires { self.now.addr + base < 2 ^ 64 }
         ensures { result ≡ record {
-            addr = self.now.addr + base; file_at = self.now.offset; file_len = self.now.file_len; mem_len = self.now.mem_len;
-            perms = record { 0 = perms_of self.now.flags } } }
+          addr = self.now.addr + base;
+          file_at = self.now.offset;
+          file_len = self.now.file_len;
+          mem_len = self.now.mem_len;
+          perms = record { 0 = perms_of self.now.flags };
+        } }
     {
         Segment {
             addr: self.addr + base,

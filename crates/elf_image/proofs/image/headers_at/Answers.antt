@@ -1,4 +1,4 @@
-use Rattle.std.proofs.Common.{◌≡◌, ◌∙◌, ◌-◌, ◌+◌, get_or, drop, sym, ap, cond, Bool, true, false, arith}
+use Rattle.std.proofs.Common.{◌∙◌, ◌-◌, ◌+◌, get_or, drop, sym, ap, cond, Bool, arith}
 use Rattle.std.proofs.lemmas.List.{drop_all}
 use Rattle.elf_image.specs.declared.kinds.Segment.{Segment}
 use Rattle.elf_image.specs.Fields.{e_phoff}
@@ -17,7 +17,7 @@ returns-then-has_headers c =
     let s = get_or xs i none in
     rw c.e_phoff.ensures
     (sym (headers_at-drop bytes xs i none c.loop-segment-test.true
-      ∙ ap (λ (b : Bool). cond b (s.addr + (e_phoff bytes - s.file_at)) (headers_at bytes (drop (i + 1) xs))) (sym c.has_headers.ensures ∙ c.if-has_headers.true))
+    ∙ ap (λ (b : Bool). cond b (s.addr + (e_phoff bytes - s.file_at)) (headers_at bytes (drop (i + 1) xs))) (sym c.has_headers.ensures ∙ c.if-has_headers.true))
     ∙ c.loop-segment.invariant)
 
 pub loop-segment-preserved : goal.loop-segment-preserved
@@ -27,7 +27,7 @@ loop-segment-preserved c =
     let i = c.loop-segment.segment-index in
     let s = get_or xs i none in
     sym (headers_at-drop bytes xs i none c.loop-segment-test.true
-      ∙ ap (λ (b : Bool). cond b (s.addr + (e_phoff bytes - s.file_at)) (headers_at bytes (drop (i + 1) xs))) (sym c.has_headers.ensures ∙ c.if-has_headers.false))
+    ∙ ap (λ (b : Bool). cond b (s.addr + (e_phoff bytes - s.file_at)) (headers_at bytes (drop (i + 1) xs))) (sym c.has_headers.ensures ∙ c.if-has_headers.false))
     ∙ c.loop-segment.invariant
 
 pub returns : goal.returns

@@ -1,7 +1,6 @@
-use Rattle.std.proofs.Common.{◌≡◌, ◌∙◌, ℕ, ◌+◌, ◌*◌, ◌%◌, ◌^◌, List, All, length, Ok, Result, sym, ap, subst, refl}
+use Rattle.std.proofs.Common.{◌≡◌, ◌∙◌, ℕ, ◌+◌, ◌*◌, ◌%◌, ◌^◌, All, length, Ok, Result, sym, ap, subst, refl}
 use Rattle.std.proofs.lemmas.Result.{err_from_is_err_and}
 use Rattle.machine_state.specs.Memory.{page_size}
-use Rattle.elf_image.specs.declared.kinds.Segment.{Segment}
 use Rattle.elf_image.specs.declared.kinds.Image.{Image}
 use Rattle.elf_image.specs.declared.kinds.ImageFault.{ImageFault}
 use Rattle.elf_image.specs.Segments.{image_of, page_behind, headers_at, EndsLow, IsSegment, IsImage}
@@ -42,8 +41,12 @@ pub returns-clause-read : goal.returns-clause-read
 returns-clause-read c =
     let bytes = c.args.bytes.now in
     let image : image_of bytes ≡ record {
-          entry = (c.e_entry.result + c.base.result) % 2 ^ 64; phdr = c.headers_at.result; phnum = c.e_phnum.result;
-          heap = page_size * c.page_behind.result; segments = c.in_ok-segments.segments } =
+      entry = (c.e_entry.result + c.base.result) % 2 ^ 64;
+      phdr = c.headers_at.result;
+      phnum = c.e_phnum.result;
+      heap = page_size * c.page_behind.result;
+      segments = c.in_ok-segments.segments;
+    } =
     image-parts bytes _ _ _ _ _ (rw (c.e_entry.ensures, c.base.ensures.value) refl)
     (c.headers_at.ensures ∙ ap (headers_at bytes) (c.as_slice.ensures.value ∙ c.in_ok-segments.ensures.segments))
     c.e_phnum.ensures
@@ -55,8 +58,12 @@ pub returns-clause-image : goal.returns-clause-image
 returns-clause-image c =
     let bytes = c.args.bytes.now in
     let image : image_of bytes ≡ record {
-          entry = (c.e_entry.result + c.base.result) % 2 ^ 64; phdr = c.headers_at.result; phnum = c.e_phnum.result;
-          heap = page_size * c.page_behind.result; segments = c.in_ok-segments.segments } =
+      entry = (c.e_entry.result + c.base.result) % 2 ^ 64;
+      phdr = c.headers_at.result;
+      phnum = c.e_phnum.result;
+      heap = page_size * c.page_behind.result;
+      segments = c.in_ok-segments.segments;
+    } =
     image-parts bytes _ _ _ _ _ (rw (c.e_entry.ensures, c.base.ensures.value) refl)
     (c.headers_at.ensures ∙ ap (headers_at bytes) (c.as_slice.ensures.value ∙ c.in_ok-segments.ensures.segments))
     c.e_phnum.ensures

@@ -1,10 +1,9 @@
 use Rattle.std.specs.Option.{option_to_list}
-use Rattle.std.proofs.Common.{length-append, ◌+◌, ◌*◌, ◌≡◌, ◌∙◌, ◌++◌, List, Option, length, sym, ap, subst, arith, All, Some}
+use Rattle.std.proofs.Common.{length-append, ◌+◌, ◌*◌, ◌≡◌, ◌∙◌, ◌++◌, List, length, sym, ap, subst, arith, All}
 use Rattle.std.proofs.lemmas.List.Elements.{All-nil, All-append}
 use Rattle.elf_image.specs.declared.kinds.Segment.{Segment}
 use Rattle.elf_image.specs.Segments.{segments_before, EndsLow}
 use Rattle.elf_image.specs.Fields.{header_place}
-use Rattle.elf_image.specs.Checks.{first_fault, header_checks}
 use Rattle.elf_image.proofs.CheckLemmas.{checks-none, segments-none, checks-on, segments-more, checks-stop, all-option, option-short, header-same, segment-same}
 use Rattle.elf_image.proofs.segments.read_segments.Goals as goal
 
