@@ -1,0 +1,10 @@
+//! The stack of a program before its first step.
+#![tactic(auto)]
+
+mod building;
+mod kinds;
+mod sizes;
+mod stack;
+
+pub use kinds::{StartFault, TooLong};
+pub use stack::{random_after, stack_bytes, stack_pointer};
