@@ -46,43 +46,53 @@ texts-length (x ∷ xs) =
 pub strings-length : (args env : List (List ℕ)) (seed : ℕ) → length (strings args env seed) ≡ strings_size args env
 unfolding strings
 strings-length args env seed =
-    omega (arith,
+    omega (
+      arith,
       length-append (flat_map with_zero args ++ flat_map with_zero env ++ with_zero (path_of args) ++ with_zero platform) (random_bytes seed),
       length-append (flat_map with_zero args ++ flat_map with_zero env ++ with_zero (path_of args)) (with_zero platform),
       length-append (flat_map with_zero args ++ flat_map with_zero env) (with_zero (path_of args)),
       length-append (flat_map with_zero args) (flat_map with_zero env),
       length-append (path_of args) (0 ∷ []),
-      texts-length args, texts-length env)
+      texts-length args,
+      texts-length env,
+    )
 
 pub vector-length : (image : Image) (args env : List (List ℕ)) → length (flat_map (little_bytes 8) (vector image args env)) ≡ vector_size args env
 unfolding vector auxiliary_vector
 vector-length image args env =
     let places = places_of args env in
     let last = flat_map pair_of (auxiliary_vector image places) in
-    omega (arith, words-length (vector image args env),
+    omega (
+      arith,
+      words-length (vector image args env),
       length-append (length args ∷ [] ++ addresses (args_at args env) args ++ 0 ∷ [] ++ addresses (env_at args env) env ++ 0 ∷ []) last,
       length-append (length args ∷ [] ++ addresses (args_at args env) args ++ 0 ∷ [] ++ addresses (env_at args env) env) (0 ∷ []),
       length-append (length args ∷ [] ++ addresses (args_at args env) args ++ 0 ∷ []) (addresses (env_at args env) env),
       length-append (length args ∷ [] ++ addresses (args_at args env) args) (0 ∷ []),
       length-append (length args ∷ []) (addresses (args_at args env) args),
-      addresses-length (args_at args env) args, addresses-length (env_at args env) env)
+      addresses-length (args_at args env) args,
+      addresses-length (env_at args env) env,
+    )
 
 pub stack-length : (image : Image) (args env : List (List ℕ)) (seed : ℕ) → length (stack image args env seed) ≡ stack_size args env
 unfolding stack stack_size
 stack-length image args env seed =
     let front = flat_map (little_bytes 8) (vector image args env) in
     let between : List ℕ = replicate (stack_size args env - used_size args env) 0 in
-    omega (arith,
+    omega (
+      arith,
       length-append (front ++ between ++ strings args env seed) (replicate {A = ℕ} 8 0),
       length-append (front ++ between) (strings args env seed),
       length-append front between,
       length-replicate {A = ℕ} (stack_size args env - used_size args env) 0,
-      vector-length image args env, strings-length args env seed)
+      vector-length image args env,
+      strings-length args env seed,
+    )
 
 -- lists that are appended part by part
 pub numbers-parts : (f : ℕ → List ℕ) (first last : ℕ) (xs ys zs old : List ℕ)
     → (((((old ++ f first) ++ flat_map f xs) ++ f last) ++ flat_map f ys) ++ f last) ++ flat_map f zs
-      ≡ old ++ flat_map f (first ∷ [] ++ xs ++ last ∷ [] ++ ys ++ last ∷ [] ++ zs)
+    ≡ old ++ flat_map f (first ∷ [] ++ xs ++ last ∷ [] ++ ys ++ last ∷ [] ++ zs)
 numbers-parts f first last xs ys zs old = simp (flat_map-append, append_assoc, append-nil)
 
 pub lists-parts : (old a b c d e f : List ℕ) → (((((old ++ a) ++ b) ++ c) ++ d) ++ e) ++ f ≡ old ++ (a ++ b ++ c ++ d ++ (e ++ f))
@@ -110,7 +120,7 @@ addresses-none old at = sym (append-nil old)
 pub addresses-more : (old : List ℕ) (at next : ℕ) (texts : List (String Global)) (i : ℕ) (d : String Global) → i < length texts
     → next ≡ at + text_size (map string_bytes (take i texts))
     → (old ++ flat_map (little_bytes 8) (addresses at (map string_bytes (take i texts)))) ++ little_bytes 8 next
-      ≡ old ++ flat_map (little_bytes 8) (addresses at (map string_bytes (take (i + 1) texts)))
+    ≡ old ++ flat_map (little_bytes 8) (addresses at (map string_bytes (take (i + 1) texts)))
 addresses-more old at next texts i d h e =
     let xs : List (List ℕ) = map string_bytes (take i texts) in
     ap (λ (n : ℕ). (old ++ flat_map (little_bytes 8) (addresses at xs)) ++ little_bytes 8 n) e
@@ -122,30 +132,30 @@ addresses-more old at next texts i d h e =
 pub vector-parts : (image : Image) (args env : List (List ℕ)) (places : Places) (first : ℕ) (old : List ℕ)
     → places ≡ places_of args env → first ≡ length args
     → (((((old ++ little_bytes 8 first) ++ flat_map (little_bytes 8) (addresses places.args args)) ++ little_bytes 8 0)
-        ++ flat_map (little_bytes 8) (addresses places.env env)) ++ little_bytes 8 0)
-      ++ flat_map (little_bytes 8) (flat_map pair_of (auxiliary_vector image places))
-      ≡ old ++ flat_map (little_bytes 8) (vector image args env)
+    ++ flat_map (little_bytes 8) (addresses places.env env)) ++ little_bytes 8 0)
+    ++ flat_map (little_bytes 8) (flat_map pair_of (auxiliary_vector image places))
+    ≡ old ++ flat_map (little_bytes 8) (vector image args env)
 unfolding vector
 vector-parts image args env places first old p f =
     rw (p, f)
     (numbers-parts (little_bytes 8) (length args) 0 (addresses (args_at args env) args) (addresses (env_at args env) env)
-      (flat_map pair_of (auxiliary_vector image (places_of args env))) old)
+    (flat_map pair_of (auxiliary_vector image (places_of args env))) old)
 
 pub strings-parts : (args env : List (List ℕ)) (seed : ℕ) (path : List ℕ) (first second : ℕ) (old : List ℕ)
     → path ≡ path_of args → first ≡ next_random seed → second ≡ next_random first
     → (((((old ++ flat_map with_zero args) ++ flat_map with_zero env) ++ with_zero path) ++ with_zero platform) ++ little_bytes 8 first)
-      ++ little_bytes 8 second
-      ≡ old ++ strings args env seed
+    ++ little_bytes 8 second
+    ≡ old ++ strings args env seed
 unfolding strings
 strings-parts args env seed path first second old p f s =
     rw (p, s, f)
     (lists-parts old (flat_map with_zero args) (flat_map with_zero env) (with_zero (path_of args)) (with_zero platform)
-      (little_bytes 8 (next_random seed)) (little_bytes 8 (next_random (next_random seed))))
+    (little_bytes 8 (next_random seed)) (little_bytes 8 (next_random (next_random seed))))
 
 pub stack-parts : (image : Image) (args env : List (List ℕ)) (seed between : ℕ) (old : List ℕ) → old ≡ []
     → between ≡ stack_size args env - used_size args env
     → (((old ++ flat_map (little_bytes 8) (vector image args env)) ++ replicate between 0) ++ strings args env seed) ++ replicate 8 0
-      ≡ stack image args env seed
+    ≡ stack image args env seed
 unfolding stack
 stack-parts image args env seed between old o b = rw (o, b) refl
 

@@ -8,3 +8,6 @@ mod stack;
 
 pub use kinds::{StartFault, TooLong};
 pub use stack::{random_after, stack_bytes, stack_pointer};
+
+#[cfg(test)]
+mod tests;
