@@ -4,10 +4,11 @@ ghost use Rattle.elf_image.specs.Fields.{field, e_type as e_type_of, e_machine a
 
 use byteorder::{ByteOrder, LittleEndian};
 
-/// How long the file header and a program header are (ELF-64, ELF header and program header).
+/// How many bytes the file header has (ELF-64, ELF header).
 pub(crate) const FILE_HEADER_SIZE: usize = 64;
 
-pub(crate) const HEADER_SIZE: usize = 56;
+/// How many bytes a program header has (ELF-64, program header).
+pub const HEADER_SIZE: usize = 56;
 
 /// The number in two, four or eight bytes from a place on.
 #[tactic(auto, unfolding(crate::specs::Fields::field))]

@@ -12,7 +12,7 @@ use arrayvec::ArrayVec;
 use machine_state::PAGE_SIZE;
 
 /// How many pages the stack has.
-const STACK_PAGES: u64 = 256;
+pub const STACK_PAGES: u64 = 256;
 
 /// Whether there is a segment, and a guest may have the pages of all segments and of the stack.
 #[tactic(auto, unfolding(crate::specs::Checks::has_room))]
@@ -76,7 +76,8 @@ fn check_all(bytes: &[u8], pages: u32) -> Result<ArrayVec<Segment, 64>, ImageFau
     Ok(segments)
 }
 
-/// Reads a program file for a guest with so many pages. A refusal is by the first check that isn't passed.
+/// Reads a program file, a static ELF-64 executable for x86-64, for a guest that may map so many pages. A refusal is by the first
+/// check that isn't passed.
 pub fn read_image(bytes: &[u8], pages: u32) -> Result<Image, ImageFault>
     ensures read { result ≡ image_read bytes.now pages }
     ensures image { IfOk result (IsImage (length bytes.now) pages) }

@@ -3,13 +3,14 @@
 use arrayvec::ArrayVec;
 use machine_state::Perms;
 
-/// A program file that isn't accepted: which check it fails, and the place in the file.
+/// A program file that isn't accepted.
 #[derive(Clone, Copy, Debug, PartialEq, Eq)]
 pub struct ImageFault {
-    /// 1 the length; 2 the magic number; 3 the class; 4 the data's order; 5 the version; 6 the kind of file; 7 the machine;
-    /// 8 the length of a program header; 9 their count; 10 where they end; 11 an interpreter; 12 a load segment's place and
-    /// size in the file; 13 its place in memory; 14 that there is one, and how many pages they take.
+    /// The check that it fails: 1 the length; 2 the magic number; 3 the class; 4 the data's order; 5 the version; 6 the kind of
+    /// file; 7 the machine; 8 the size of a program header; 9 how many there are; 10 where they end; 11 an interpreter; 12 a load
+    /// segment's size and place in the file; 13 its place in memory; 14 that there is one, and how many pages they take.
     pub number: u8,
+    /// The place of the field in the file; of check 1 the file's length, or the most that it may be.
     pub place: u64,
 }
 

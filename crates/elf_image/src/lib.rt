@@ -7,7 +7,8 @@ mod image;
 mod kinds;
 mod segments;
 
-pub use image::read_image;
+pub use fields::HEADER_SIZE;
+pub use image::{STACK_PAGES, read_image};
 pub use kinds::{Image, ImageFault, Segment};
 
 #[cfg(test)]

@@ -100,46 +100,30 @@ addresses at (text ∷ rest) = at ∷ addresses (at + (length text + 1)) rest
 abbrev pub auxiliary : (kind value : ℕ) → Auxiliary
 auxiliary kind value = record { kind = kind; value = value }
 
--- the auxiliary vector (System V ABI, AMD64, 3.4.3, and Linux, uapi/linux/auxvec.h), in its order
+-- the auxiliary vector, in its order (the kinds: System V ABI, AMD64, 3.4.3, and Linux, uapi/linux/auxvec.h; the values: this
+-- program's own)
 unfoldable pub auxiliary_vector : Image → Places → List Auxiliary
 auxiliary_vector image places =
-    -- AT_PHDR, the address of the program headers
-    auxiliary 3 image.phdr
-    -- AT_PHENT, the size of each
-    ∷ auxiliary 4 header_size
-    -- AT_PHNUM, their count
-    ∷ auxiliary 5 image.phnum
-    -- AT_PAGESZ
-    ∷ auxiliary 6 page_size
-    -- AT_BASE, of an interpreter
-    ∷ auxiliary 7 0
-    -- AT_FLAGS
-    ∷ auxiliary 8 0
-    -- AT_ENTRY
-    ∷ auxiliary 9 image.entry
-    -- AT_UID, AT_EUID, AT_GID and AT_EGID
-    ∷ auxiliary 11 1000
-    ∷ auxiliary 12 1000
-    ∷ auxiliary 13 1000
-    ∷ auxiliary 14 1000
-    -- AT_PLATFORM, the address of its name
-    ∷ auxiliary 15 places.platform
-    -- AT_HWCAP, features of the processor as CPUID has them in edx
-    ∷ auxiliary 16 0x06008111
-    -- AT_CLKTCK, ticks in a second
-    ∷ auxiliary 17 100
-    -- AT_SECURE
-    ∷ auxiliary 23 0
-    -- AT_RANDOM, the address of the random bytes
-    ∷ auxiliary 25 places.random
-    -- AT_HWCAP2
-    ∷ auxiliary 26 0
-    -- AT_EXECFN, the address of the program's path
-    ∷ auxiliary 31 places.path
-    -- AT_MINSIGSTKSZ, the least size of a signal stack
-    ∷ auxiliary 51 4096
-    -- AT_NULL, the end
-    ∷ auxiliary 0 0
+    auxiliary 3 image.phdr  -- AT_PHDR, the address of the program headers
+    ∷ auxiliary 4 header_size  -- AT_PHENT, the size of each
+    ∷ auxiliary 5 image.phnum  -- AT_PHNUM, their count
+    ∷ auxiliary 6 page_size  -- AT_PAGESZ
+    ∷ auxiliary 7 0  -- AT_BASE, of an interpreter
+    ∷ auxiliary 8 0  -- AT_FLAGS
+    ∷ auxiliary 9 image.entry  -- AT_ENTRY
+    ∷ auxiliary 11 1000  -- AT_UID
+    ∷ auxiliary 12 1000  -- AT_EUID
+    ∷ auxiliary 13 1000  -- AT_GID
+    ∷ auxiliary 14 1000  -- AT_EGID
+    ∷ auxiliary 15 places.platform  -- AT_PLATFORM, the address of its name
+    ∷ auxiliary 16 0x06008111  -- AT_HWCAP, features of the processor as CPUID has them in edx
+    ∷ auxiliary 17 100  -- AT_CLKTCK, ticks in a second
+    ∷ auxiliary 23 0  -- AT_SECURE
+    ∷ auxiliary 25 places.random  -- AT_RANDOM, the address of the random bytes
+    ∷ auxiliary 26 0  -- AT_HWCAP2
+    ∷ auxiliary 31 places.path  -- AT_EXECFN, the address of the program's path
+    ∷ auxiliary 51 4096  -- AT_MINSIGSTKSZ, the least size of a signal stack
+    ∷ auxiliary 0 0  -- AT_NULL, the end
     ∷ []
 
 abbrev pub pair_of : Auxiliary → List ℕ

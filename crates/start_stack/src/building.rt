@@ -1,12 +1,13 @@
 //! The parts of a stack, which are appended one after the other.
 ghost use Rattle.std.specs.Prelude.{◌≡◌, ◌<◌, ◌≤◌, ◌+◌, ◌^◌, OnOk, length, map, flat_map, replicate, string_bytes, ◌++◌};
 ghost use Rattle.byteorder.specs.Endian.{little_bytes};
-ghost use Rattle.start_stack.specs.Stack.{with_zero, text_size, addresses, auxiliary_vector as auxiliary_vector_of, pair_of, vector, strings as strings_of, used_size, longest_stack};
+ghost use Rattle.start_stack.specs.Stack.{with_zero, text_size, addresses, pair_of, vector, strings as strings_of, used_size, longest_stack};
 
-use crate::kinds::{Auxiliary, Places};
+use crate::auxiliary::auxiliary_vector;
+use crate::kinds::Auxiliary;
 use crate::sizes::places;
 use elf_image::Image;
-use machine_state::{PAGE_SIZE, next_random};
+use machine_state::next_random;
 use std::alloc::AllocError;
 
 /// The name of the platform.
@@ -69,39 +70,12 @@ fn put_addresses(stack: &mut Vec<u8>, at: u64, texts: &[String]) -> Result<(), A
     Ok(())
 }
 
-fn entry(kind: u64, value: u64) -> Auxiliary
-    ensures { result ≡ record { kind = kind; value = value } }
+/// Appends the two numbers of an entry.
+fn put_pair(stack: &mut Vec<u8>, entry: &Auxiliary) -> Result<(), AllocError>
+    ensures { OnOk result (stack.new.items ≡ stack.old.items ++ flat_map (little_bytes 8) (pair_of entry.now)) }
 {
-    Auxiliary { kind, value }
-}
-
-/// The auxiliary vector (System V ABI, AMD64, 3.4.3, and Linux, uapi/linux/auxvec.h).
-#[tactic(auto, unfolding(crate::specs::Stack::auxiliary_vector))]
-fn auxiliary_vector(image: &Image, places: &Places) -> [Auxiliary; 20]
-    ensures { result ≡ auxiliary_vector_of image.now places.now }
-{
-    [
-        entry(3, image.phdr),
-        entry(4, 56),
-        entry(5, u64::from(image.phnum)),
-        entry(6, PAGE_SIZE),
-        entry(7, 0),
-        entry(8, 0),
-        entry(9, image.entry),
-        entry(11, 1000),
-        entry(12, 1000),
-        entry(13, 1000),
-        entry(14, 1000),
-        entry(15, places.platform),
-        entry(16, 0x0600_8111),
-        entry(17, 100),
-        entry(23, 0),
-        entry(25, places.random),
-        entry(26, 0),
-        entry(31, places.path),
-        entry(51, 4096),
-        entry(0, 0),
-    ]
+    put_number(stack, entry.kind)?;
+    put_number(stack, entry.value)
 }
 
 /// Appends the entries of an auxiliary vector.
@@ -115,13 +89,6 @@ fn put_auxiliary(stack: &mut Vec<u8>, entries: &[Auxiliary]) -> Result<(), Alloc
         }
     }
     Ok(())
-}
-
-fn put_pair(stack: &mut Vec<u8>, entry: &Auxiliary) -> Result<(), AllocError>
-    ensures { OnOk result (stack.new.items ≡ stack.old.items ++ flat_map (little_bytes 8) (pair_of entry.now)) }
-{
-    put_number(stack, entry.kind)?;
-    put_number(stack, entry.value)
 }
 
 /// Appends the vector.

@@ -5,7 +5,7 @@ ghost use Rattle.start_stack.specs.Stack.{path_of, text_size as text_size_of, st
 use crate::kinds::Places;
 
 /// Where the stack ends.
-pub(crate) const STACK_TOP: u64 = 0x7FFF_FFFF_F000;
+pub const STACK_TOP: u64 = 0x7FFF_FFFF_F000;
 
 /// How many bytes some texts have with their final 0s, at most 2^64 - 1.
 pub(crate) fn text_size(texts: &[String]) -> u64
