@@ -228,10 +228,8 @@ pub(crate) fn read_segments(bytes: &[u8]) -> Result<ArrayVec<Segment, 64>, Image
     let mut segments = ArrayVec::new();
     for number in 0..usize::from(e_phnum(bytes)) {
         let place = e_phoff(bytes) as usize + HEADER_SIZE * number;
-        match read_header(bytes, place, segments.as_slice()) {
-            Ok(segment) => add(&mut segments, segment),
-            Err(fault) => return Err(fault),
-        }
+        let segment = read_header(bytes, place, segments.as_slice())?;
+        add(&mut segments, segment);
     }
     Ok(segments)
 }

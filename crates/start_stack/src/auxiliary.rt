@@ -46,6 +46,9 @@ const AT_MINSIGSTKSZ: u64 = 51;
 
 const AT_NULL: u64 = 0;
 
+/// How many entries there are.
+pub(crate) const ENTRIES: usize = 20;
+
 /// The user and the group.
 const USER: u64 = 1000;
 
@@ -66,7 +69,7 @@ fn entry(kind: u64, value: u64) -> Auxiliary
 
 /// The auxiliary vector of a program whose strings are at these places.
 #[tactic(auto, unfolding(crate::specs::Stack::auxiliary_vector))]
-pub(crate) fn auxiliary_vector(image: &Image, places: &Places) -> [Auxiliary; 20]
+pub(crate) fn auxiliary_vector(image: &Image, places: &Places) -> [Auxiliary; ENTRIES]
     ensures { result ≡ auxiliary_vector_of image.now places.now }
 {
     [

@@ -5,13 +5,10 @@ ghost use Rattle.start_stack.specs.Stack.{with_zero, text_size, addresses, pair_
 
 use crate::auxiliary::auxiliary_vector;
 use crate::kinds::Auxiliary;
-use crate::sizes::places;
+use crate::sizes::{PLATFORM, places};
 use elf_image::Image;
 use machine_state::next_random;
 use std::alloc::AllocError;
-
-/// The name of the platform.
-const PLATFORM: &str = "x86_64";
 
 /// Appends a number as 8 bytes, the lowest first.
 fn put_number(stack: &mut Vec<u8>, number: u64) -> Result<(), AllocError>
@@ -25,10 +22,7 @@ pub(crate) fn put_zeros(stack: &mut Vec<u8>, count: usize) -> Result<(), AllocEr
     ensures { OnOk result (stack.new.items ≡ stack.old.items ++ replicate count 0) }
 {
     for _ in 0..count {
-        match stack.extend_from_slice(&[0]) {
-            Ok(()) => {}
-            Err(e) => return Err(e),
-        }
+        stack.extend_from_slice(&[0])?;
     }
     Ok(())
 }
@@ -46,10 +40,7 @@ fn put_texts(stack: &mut Vec<u8>, texts: &[String]) -> Result<(), AllocError>
     ensures { OnOk result (stack.new.items ≡ stack.old.items ++ flat_map with_zero (map string_bytes texts.now)) }
 {
     for text in texts {
-        match put_text(stack, text.as_str()) {
-            Ok(()) => {}
-            Err(e) => return Err(e),
-        }
+        put_text(stack, text.as_str())?;
     }
     Ok(())
 }
@@ -61,10 +52,7 @@ fn put_addresses(stack: &mut Vec<u8>, at: u64, texts: &[String]) -> Result<(), A
 {
     let mut next = at;
     for text in texts {
-        match put_number(stack, next) {
-            Ok(()) => {}
-            Err(e) => return Err(e),
-        }
+        put_number(stack, next)?;
         next += text.len() as u64 + 1;
     }
     Ok(())
@@ -83,10 +71,7 @@ fn put_auxiliary(stack: &mut Vec<u8>, entries: &[Auxiliary]) -> Result<(), Alloc
     ensures { OnOk result (stack.new.items ≡ stack.old.items ++ flat_map (little_bytes 8) (flat_map pair_of entries.now)) }
 {
     for entry in entries {
-        match put_pair(stack, entry) {
-            Ok(()) => {}
-            Err(e) => return Err(e),
-        }
+        put_pair(stack, entry)?;
     }
     Ok(())
 }

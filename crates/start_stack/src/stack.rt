@@ -3,7 +3,7 @@ ghost use Rattle.std.specs.Prelude.{◌≡◌, ◌<◌, ◌≤◌, ◌-◌, ◌^
 ghost use Rattle.start_stack.specs.Stack.{used_size as used_size_of, stack_size, stack as stack_of, stack_top, longest_stack, random_after as random_after_of, Refuses};
 
 use crate::building::{put_strings, put_vector, put_zeros};
-use crate::sizes::{STACK_TOP, rounded_up, used_size};
+use crate::sizes::{END_SIZE, STACK_TOP, rounded_up, used_size};
 use crate::{StartFault, TooLong};
 use elf_image::Image;
 use machine_state::next_random;
@@ -31,7 +31,7 @@ fn build(
     put_vector(&mut stack, image, args, env)?;
     put_zeros(&mut stack, between)?;
     put_strings(&mut stack, args, env, seed)?;
-    put_zeros(&mut stack, 8)?;
+    put_zeros(&mut stack, END_SIZE as usize)?;
     Ok(stack)
 }
 

@@ -17,7 +17,7 @@ overflow_add-next-in-loop-text c =
 
 pub loop-text-preserved : goal.loop-text-preserved
 loop-text-preserved c = record {
-  items = c.in-Ok.ensures
+  items = c.in_ok-put_number.ensures
       ∙ ap (λ (xs : List ℕ). xs ++ little_bytes 8 c.loop-text.next) c.loop-text.invariant.items
       ∙ addresses-more c.args.stack.now.items c.args.at c.loop-text.next c.args.texts.now c.loop-text.text-index c.text-item.result
       c.loop-text-test.true c.loop-text.invariant.next;
