@@ -1,8 +1,8 @@
 -- Texts and addresses one after the other.
 use Rattle.std.proofs.Common.{◌≡◌, ℕ, zero, suc, ◌+◌, ◌-◌, ◌*◌, ◌<◌, ◌≤◌, List, [], ◌∷◌, ◌++◌, length, get_or, take, map, replicate, refl, sym, ◌∙◌, ap, subst, arith, add-one, append_assoc, length-append, String, Global, string_bytes}
-use Rattle.std.specs.List.{flat_map, sum_by, take-map}
-use Rattle.std.proofs.lemmas.List.{take_more, map-append, append-nil, length-map, length-replicate, flat_map_more, get_or-map}
-use Rattle.std.proofs.lemmas.List.Concat.{flat_map-append, length-flat_map}
+use Rattle.std.specs.List.{flat_map, take-map}
+use Rattle.std.proofs.lemmas.List.{take_more, map-append, append-nil, length-replicate, flat_map_more, get_or-map}
+use Rattle.std.proofs.lemmas.List.Concat.{flat_map-append}
 use Rattle.std.proofs.lemmas.List.Sums.{sum_by_push, sum_by-cons, sum_by-take-le}
 use Rattle.byteorder.specs.Endian.{little_bytes}
 use Rattle.machine_state.specs.Random.{next_random}

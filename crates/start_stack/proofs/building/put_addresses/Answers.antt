@@ -1,4 +1,4 @@
-use Rattle.std.proofs.Common.{◌∙◌, ◌+◌, ◌++◌, List, ℕ, String, Global, string_bytes, length, ap, sym, arith}
+use Rattle.std.proofs.Common.{◌∙◌, ◌+◌, ◌++◌, List, ℕ, String, Global, string_bytes, length, ap, arith}
 use Rattle.byteorder.specs.Endian.{little_bytes}
 use Rattle.start_stack.proofs.StackLemmas.{addresses-none, addresses-more, size-more, size-within}
 use Rattle.start_stack.proofs.building.put_addresses.Goals as goal

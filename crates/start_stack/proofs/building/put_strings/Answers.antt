@@ -1,4 +1,4 @@
-use Rattle.std.proofs.Common.{◌∙◌, ◌++◌, String, Global, string_bytes, map, ap, sym}
+use Rattle.std.proofs.Common.{◌∙◌, String, Global, string_bytes, map, ap}
 use Rattle.std.proofs.lemmas.Result.{on_ok_weaker}
 use Rattle.start_stack.proofs.StackLemmas.{strings-parts, path-is}
 use Rattle.start_stack.proofs.building.put_strings.Goals as goal

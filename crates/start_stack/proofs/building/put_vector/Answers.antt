@@ -1,4 +1,4 @@
-use Rattle.std.proofs.Common.{◌∙◌, ◌++◌, string_bytes, map, ap, sym}
+use Rattle.std.proofs.Common.{◌∙◌, string_bytes, map, sym}
 use Rattle.std.proofs.lemmas.List.{length-map}
 use Rattle.std.proofs.lemmas.Result.{on_ok_weaker}
 use Rattle.start_stack.proofs.StackLemmas.{vector-parts}
