@@ -1,0 +1,3 @@
+pub mod CheckLemmas
+pub mod ImageLemmas
+pub mod SegmentLemmas
