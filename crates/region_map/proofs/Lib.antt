@@ -1,0 +1,4 @@
+pub mod Joins
+pub mod Natures
+pub mod Ascents
+pub mod After

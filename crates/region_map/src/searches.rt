@@ -1,0 +1,83 @@
+//! Searches among regions, by the numbers of pages.
+ghost use Rattle.std.specs.Prelude.{◌≡◌, ◌≤◌, ◌<◌, ◌+◌, ◌^◌, None, MatchOption, ℕ, true, false};
+ghost use Rattle.std.specs.Option.{option_map};
+ghost use Rattle.machine_state.specs.Regions.{AreRegions, nature_at};
+ghost use Rattle.region_map.specs.Calls.{is_mapped, AllIn, NoneIn, IsFreeRange, lowest_page};
+
+use machine_state::Region;
+
+/// The first page that a guest may choose.
+const LOWEST: u64 = 0x10;
+
+/// Whether a page is of a file, by the regions.
+pub(crate) fn origin_in(regions: &[Region], page: u64) -> Option<bool>
+    requires { AreRegions regions.now }
+    ensures { result ≡ option_map (λ nature. nature.file) (nature_at regions.now page) }
+{
+    for region in regions {
+        if region.first <= page && page - region.first < region.count {
+            return Some(region.file);
+        }
+    }
+    None
+}
+
+/// The first page from one on that isn't mapped.
+pub(crate) fn first_hole(regions: &[Region], from: u64) -> u64
+    requires { AreRegions regions.now }
+    ensures above { from ≤ result }
+    ensures hole { is_mapped regions.now result ≡ false }
+    ensures before { AllIn (is_mapped regions.now) from result }
+{
+    let mut at = from;
+    for region in regions {
+        if region.first <= at && at < region.first + region.count {
+            at = region.first + region.count;
+        }
+    }
+    at
+}
+
+/// The first page from one on that is mapped, or a page where there is none below that.
+pub(crate) fn first_mapped(regions: &[Region], from: u64, to: u64) -> u64
+    requires listed { AreRegions regions.now }
+    requires range { from ≤ to }
+    ensures above { from ≤ result }
+    ensures within { result ≤ to }
+    ensures mapped { result < to → is_mapped regions.now result ≡ true }
+    ensures before { NoneIn (is_mapped regions.now) from result }
+{
+    for region in regions {
+        if from < region.first + region.count {
+            return region.first.max(from).min(to);
+        }
+    }
+    to
+}
+
+/// The first page of the highest range of so many free pages that ends by a page.
+pub(crate) fn highest_free(regions: &[Region], end: u64, count: u64) -> Option<u64>
+    requires listed { AreRegions regions.now }
+    requires some { 0 < count }
+    ensures { MatchOption result ((first : ℕ) → IsFreeRange regions.now end count first → ⊥)
+        (λ first. IsFreeRange regions.now end count first
+            × ((other : ℕ) → IsFreeRange regions.now end count other → other ≤ first)) }
+{
+    let mut found = None;
+    let mut low = LOWEST;
+    for region in regions {
+        found = later(found, low, region.first.min(end), count);
+        low = low.max(region.first + region.count);
+    }
+    later(found, low, end, count)
+}
+
+// The last range of so many pages from one page on and below another, or else one that was found before.
+fn later(found: Option<u64>, low: u64, end: u64, count: u64) -> Option<u64> 
+{
+    if low <= end && count <= end - low {
+        Some(end - count)
+    } else {
+        found
+    }
+}
