@@ -66,9 +66,17 @@ is_taken regions page = is_mapped regions page || nat_le highest_end page
 abbrev pub heap_perms : ℕ
 heap_perms = 3
 
--- so many pages from one on are free: they lie among those that a guest may choose, end by some page, and none of them is mapped
-pub record IsFreeRange (regions : List Region) (end count first : ℕ) : Type 0 where
-  pub low : lowest_page ≤ first
-  pub high : first + count ≤ highest_end
-  pub ends : first + count ≤ end
-  pub free : NoneIn (is_mapped regions) first (first + count)
+-- so many pages from an address on are free: they lie among those that a guest may choose, end at an address or below it, and
+-- none of them is mapped
+pub record IsFreeBelow (regions : List Region) (top count addr : ℕ) : Type 0 where
+  pub page : ℕ
+  pub addr_is : addr ≡ page * page_size
+  pub low : lowest_page ≤ page
+  pub high : page + count ≤ highest_end
+  pub ends : addr + count * page_size ≤ top
+  pub free : NoneIn (is_mapped regions) page (page + count)
+
+-- the highest of the places that pass a test, if there is one
+abbrev pub IsHighest : (ℕ → Type 0) → Option ℕ → Type 0
+IsHighest Place None = (place : ℕ) → Place place → ⊥
+IsHighest Place (Some highest) = Place highest × ((place : ℕ) → Place place → place ≤ highest)

@@ -6,6 +6,7 @@ use Rattle.machine_state.specs.declared.permissions.Perms.{Perms}
 use Rattle.guest_pages.specs.Pages.{PagesValue, table_of, mapped_count}
 use Rattle.region_map.specs.declared.kinds.Change.{Change}
 use Rattle.region_map.specs.declared.kinds.Change.TheVariants.{Map, Unmap, Protect}
+use Rattle.region_map.specs.Calls.{lowest_page, NoneIn, is_mapped}
 use Rattle.region_map.specs.Ranges.{is_in, page_end, joined, with_region_perms}
 
 -- a region behind others; with the last of them it is one region where that touches it
@@ -35,6 +36,12 @@ MayChange (Map perms file) from to = (perms.0 < 8) × (to ≤ page_end)
 MayChange Unmap from to = Unit {0}
 MayChange (Protect perms) from to = perms.0 < 8
 
+-- a change that maps no page
+abbrev pub MapsNone : Change → Type 0
+MapsNone (Map perms file) = ⊥
+MapsNone Unmap = Unit {0}
+MapsNone (Protect perms) = Unit {0}
+
 -- how many numbers below one pass a test
 unfoldable pub count_below : (ℕ → Bool) → ℕ → ℕ
 count_below test zero = 0
@@ -50,9 +57,21 @@ CanChange (Map perms file) pages page = table_of pages page ≡ None → mapped_
 CanChange Unmap pages page = Unit {0}
 CanChange (Protect perms) pages page = IsSome (table_of pages page)
 
+-- there is room for all pages of a range that is mapped
+abbrev pub HasRoom : Change → PagesValue → (from to : ℕ) → Type 0
+HasRoom (Map perms file) pages from to =
+    AreTallied pages × (count_below (λ page. is_in from to page || is_some (table_of pages page)) page_end ≤ length pages.slots)
+HasRoom Unmap pages from to = Unit {0}
+HasRoom (Protect perms) pages from to = Unit {0}
+
 -- a range of pages can be changed so: there is room for all its pages, or each of them is mapped
 abbrev pub CanChangeAll : Change → PagesValue → (from to : ℕ) → Type 0
-CanChangeAll (Map perms file) pages from to =
-    AreTallied pages × (count_below (λ page. is_in from to page || is_some (table_of pages page)) page_end ≤ length pages.slots)
+CanChangeAll (Map perms file) pages from to = HasRoom (Map perms file) pages from to
 CanChangeAll Unmap pages from to = Unit {0}
 CanChangeAll (Protect perms) pages from to = (page : ℕ) → is_in from to page ≡ true → IsSome (table_of pages page)
+
+-- so many pages from one on are free, and end by another, by their numbers
+pub record IsFreeSpan (regions : List Region) (end count page : ℕ) : Type 0 where
+  pub low : lowest_page ≤ page
+  pub ends : page + count ≤ end
+  pub free : NoneIn (is_mapped regions) page (page + count)

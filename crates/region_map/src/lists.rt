@@ -1,5 +1,5 @@
 //! Lists of regions, each as long as it can be.
-ghost use Rattle.std.specs.Prelude.{◌≡◌, ◌≤◌, ◌<◌, ◌+◌, ◌^◌, ◌++◌, ◌∷◌, [], ℕ, List, length, map, MatchResult, OnOk, OnErr};
+ghost use Rattle.std.specs.Prelude.{◌≡◌, ◌≤◌, ◌<◌, ◌+◌, ◌^◌, ◌++◌, ◌∷◌, [], ℕ, List, length, map, min, max, MatchOption, MatchResult, OnOk, OnErr};
 ghost use Rattle.std.specs.Option.{option_to_list};
 ghost use Rattle.machine_state.specs.Regions.{AreRegions, end_of, page_sum as sum_of, most_regions};
 ghost use Rattle.region_map.specs.Ranges.{touches, part as part_of, parts, middle, changed_regions, IsAfter};
@@ -73,7 +73,9 @@ fn append(list: &mut RegionList, next: Region) -> Result<(), Full>
 /// The pages of a region from one page on and below another, as a region.
 pub(crate) fn part(region: Region, from: u64, to: u64) -> Option<Region>
     requires { end_of region < 2 ^ 64 }
-    ensures { option_to_list result ≡ part_of from to region }
+    ensures value { option_to_list result ≡ part_of from to region }
+    ensures span { MatchOption result (min (end_of region) to ≤ max region.first from)
+        (λ part. (part.first ≡ max region.first from) × (part.first < end_of part) × (end_of part ≡ min (end_of region) to)) }
 {
     let first = region.first.max(from);
     let end = (region.first + region.count).min(to);

@@ -3,8 +3,8 @@ ghost use Rattle.std.specs.Prelude.{◌≡◌, ◌≤◌, ◌<◌, ◌+◌, leng
 ghost use Rattle.machine_state.specs.Regions.{AreRegions, page_sum as sum_of};
 
 use crate::kinds::{BreakFault, Change, ProtectFault};
-use crate::lists::{PAGE_END, RegionList, changed, page_sum, part};
-use crate::ranges::{change_mapped, change_pages};
+use crate::lists::{PAGE_END, RegionList, changed, page_sum};
+use crate::ranges::change_range;
 use crate::searches::{first_hole, first_mapped, highest_free, origin_in};
 use guest_pages::{Full, Pages};
 use machine_state::{PAGE_SIZE, Perms, Region};
@@ -105,12 +105,7 @@ impl Regions {
         change: Change,
     ) -> Result<(), Full> {
         let list = self.list_after(pages, from, to, change)?;
-        match change {
-            Change::Map(_, _) => change_pages(pages, from, to, change),
-            Change::Unmap | Change::Protect(_) => {
-                change_mapped(pages, &self.regions, from, to, change)
-            }
-        }
+        change_range(pages, &self.regions, from, to, change);
         self.regions = list;
         Ok(())
     }

@@ -1,8 +1,9 @@
 //! Searches among regions, by the numbers of pages.
-ghost use Rattle.std.specs.Prelude.{◌≡◌, ◌≤◌, ◌<◌, ◌+◌, ◌^◌, None, MatchOption, ℕ, true, false};
+ghost use Rattle.std.specs.Prelude.{◌≡◌, ◌≤◌, ◌<◌, ◌+◌, ◌-◌, nat_le, if◌then◌else◌, true, false};
 ghost use Rattle.std.specs.Option.{option_map};
 ghost use Rattle.machine_state.specs.Regions.{AreRegions, nature_at};
-ghost use Rattle.region_map.specs.Calls.{is_mapped, AllIn, NoneIn, IsFreeRange, lowest_page};
+ghost use Rattle.region_map.specs.Calls.{is_mapped, AllIn, NoneIn, IsHighest};
+ghost use Rattle.region_map.specs.Lists.{IsFreeSpan};
 
 use machine_state::Region;
 
@@ -31,14 +32,15 @@ pub(crate) fn first_hole(regions: &[Region], from: u64) -> u64
 {
     let mut at = from;
     for region in regions {
-        if region.first <= at && at < region.first + region.count {
-            at = region.first + region.count;
+        if at < region.first {
+            return at;
         }
+        at = at.max(region.first + region.count);
     }
     at
 }
 
-/// The first page from one on that is mapped, or a page where there is none below that.
+/// The first page from one on and below another that is mapped, or else that other.
 pub(crate) fn first_mapped(regions: &[Region], from: u64, to: u64) -> u64
     requires listed { AreRegions regions.now }
     requires range { from ≤ to }
@@ -55,13 +57,22 @@ pub(crate) fn first_mapped(regions: &[Region], from: u64, to: u64) -> u64
     to
 }
 
-/// The first page of the highest range of so many free pages that ends by a page.
+// The last so many pages from one on and below another, or else those that were found before.
+fn later(found: Option<u64>, low: u64, end: u64, count: u64) -> Option<u64>
+    ensures { result ≡ (if nat_le (low + count) end then Some (end - count) else found) }
+{
+    if low <= end && count <= end - low {
+        Some(end - count)
+    } else {
+        found
+    }
+}
+
+/// The first of the highest so many free pages that end by another page.
 pub(crate) fn highest_free(regions: &[Region], end: u64, count: u64) -> Option<u64>
     requires listed { AreRegions regions.now }
     requires some { 0 < count }
-    ensures { MatchOption result ((first : ℕ) → IsFreeRange regions.now end count first → ⊥)
-        (λ first. IsFreeRange regions.now end count first
-            × ((other : ℕ) → IsFreeRange regions.now end count other → other ≤ first)) }
+    ensures { IsHighest (IsFreeSpan regions.now end count) result }
 {
     let mut found = None;
     let mut low = LOWEST;
@@ -70,14 +81,4 @@ pub(crate) fn highest_free(regions: &[Region], end: u64, count: u64) -> Option<u
         low = low.max(region.first + region.count);
     }
     later(found, low, end, count)
-}
-
-// The last range of so many pages from one page on and below another, or else one that was found before.
-fn later(found: Option<u64>, low: u64, end: u64, count: u64) -> Option<u64> 
-{
-    if low <= end && count <= end - low {
-        Some(end - count)
-    } else {
-        found
-    }
 }
