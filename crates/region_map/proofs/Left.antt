@@ -1,12 +1,13 @@
 -- Searches among regions in ascending order.
-use Rattle.std.proofs.Common.{◌≡◌, ◌≢◌, ℕ, ◌+◌, ◌-◌, ◌≤◌, ◌<◌, Bool, true, false, cond, List, [], ◌∷◌, drop, get_or, length, min, max, nat_le, Option, Some, None, is_some, refl, sym, ◌∙◌, ap, subst, arith, add-one, ◌⊎◌, inl, inr, ⊎_elim}
+use Rattle.std.proofs.Common.{◌≡◌, ◌≢◌, ℕ, ◌+◌, ◌-◌, ◌≤◌, ◌<◌, Bool, true, false, cond, List, [], ◌∷◌, drop, get_or, length, min, max, nat_le, Option, Some, None, is_some, refl, sym, ◌∙◌, ap, subst, arith, add-one, ◌*◌, ◌/◌, ◌⊎◌, inl, inr, ⊎_elim}
 use Rattle.std.proofs.lemmas.Bool.{cases_lt}
 use Rattle.std.proofs.lemmas.Bool.Decides.{nat_tests}
 use Rattle.std.proofs.Math.Seq.{drop-cons}
+use Rattle.machine_state.specs.Memory.{page_size}
 use Rattle.machine_state.specs.declared.kinds.Region.{Region}
 use Rattle.machine_state.specs.Regions.{Nature, nature_of, end_of, has_page, nature_at, AreRegions}
 use Rattle.region_map.specs.Ranges.{page_end}
-use Rattle.region_map.specs.Calls.{is_mapped, AllIn, NoneIn, lowest_page, IsHighest}
+use Rattle.region_map.specs.Calls.{is_mapped, NoneIn, lowest_page, highest_end, IsHighest, IsFreeBelow}
 use Rattle.region_map.specs.Lists.{IsFreeSpan}
 use Rattle.region_map.proofs.Ascents.{Ascend, regions_ascend}
 use Rattle.region_map.proofs.Natures.{in_true, in_above}
@@ -149,3 +150,26 @@ best_first xs end count some = record { highest = λ page span. let ends = span.
 
 pub reached_first : (xs : List Region) → IsReached xs lowest_page
 reached_first xs = record { above = omega arith; under = λ lt. absurd (omega arith) }
+
+-- the same by addresses
+pub span_below : (xs : List Region) (top end count page : ℕ) → end ≡ min (top / page_size) highest_end → IsFreeSpan xs end count page → IsFreeBelow xs top count (page * page_size)
+span_below xs top end count page e span =
+    let ends = span.ends in
+    record { page = page; addr_is = refl; low = span.low; high = omega arith; ends = omega arith; free = span.free }
+
+pub highest_below : (xs : List Region) (top end count page : ℕ) → end ≡ min (top / page_size) highest_end → ((other : ℕ) → IsFreeSpan xs end count other → other ≤ page)
+    → (place : ℕ) → IsFreeBelow xs top count place → place ≤ page * page_size
+highest_below xs top end count page e highest place b =
+    let ends = b.ends in
+    let high = b.high in
+    let is = b.addr_is in
+    let le = highest b.page (record { low = b.low; ends = omega arith; free = b.free }) in
+    omega arith
+
+pub none_below : (xs : List Region) (top end count : ℕ) → end ≡ min (top / page_size) highest_end → ((other : ℕ) → IsFreeSpan xs end count other → ⊥)
+    → (place : ℕ) → IsFreeBelow xs top count place → ⊥
+none_below xs top end count e none place b =
+    let ends = b.ends in
+    let high = b.high in
+    let is = b.addr_is in
+    none b.page (record { low = b.low; ends = omega arith; free = b.free })

@@ -6,3 +6,4 @@ pub mod Tallies
 pub mod Left
 pub mod Paging
 pub mod Covers
+pub mod Fits

@@ -1,14 +1,17 @@
 //! Searches among regions, by the numbers of pages.
-ghost use Rattle.std.specs.Prelude.{◌≡◌, ◌≤◌, ◌<◌, ◌+◌, ◌-◌, nat_le, if◌then◌else◌, true, false};
+ghost use Rattle.std.specs.Prelude.{◌≡◌, ◌≤◌, ◌<◌, ◌+◌, ◌-◌, ℕ, nat_le, if◌then◌else◌, true, false, not, MatchOption};
 ghost use Rattle.std.specs.Option.{option_map};
 ghost use Rattle.machine_state.specs.Regions.{AreRegions, nature_at};
-ghost use Rattle.region_map.specs.Calls.{is_mapped, AllIn, NoneIn, IsHighest};
+ghost use Rattle.region_map.specs.Calls.{is_mapped, is_taken, NoneIn, IsFirst, IsHighest};
 ghost use Rattle.region_map.specs.Lists.{IsFreeSpan};
 
 use machine_state::Region;
 
 /// The first page that a guest may choose.
 const LOWEST: u64 = 0x10;
+
+/// The page behind the last one that a guest may choose.
+pub(crate) const HIGHEST_END: u64 = 0x7_FFFF_FFFF;
 
 /// Whether a page is of a file, by the regions.
 pub(crate) fn origin_in(regions: &[Region], page: u64) -> Option<bool>
@@ -23,12 +26,12 @@ pub(crate) fn origin_in(regions: &[Region], page: u64) -> Option<bool>
     None
 }
 
-/// The first page from one on that isn't mapped.
-pub(crate) fn first_hole(regions: &[Region], from: u64) -> u64
+// The first page from one on that isn't mapped.
+fn hole_from(regions: &[Region], from: u64) -> u64
     requires { AreRegions regions.now }
     ensures above { from ≤ result }
     ensures hole { is_mapped regions.now result ≡ false }
-    ensures before { AllIn (is_mapped regions.now) from result }
+    ensures before { (page : ℕ) → from ≤ page → page < result → is_mapped regions.now page ≡ true }
 {
     let mut at = from;
     for region in regions {
@@ -40,8 +43,18 @@ pub(crate) fn first_hole(regions: &[Region], from: u64) -> u64
     at
 }
 
-/// The first page from one on and below another that is mapped, or else that other.
-pub(crate) fn first_mapped(regions: &[Region], from: u64, to: u64) -> u64
+/// The first page of a range that isn't mapped.
+pub(crate) fn first_hole(regions: &[Region], from: u64, to: u64) -> Option<u64>
+    requires { AreRegions regions.now }
+    ensures { MatchOption result (NoneIn (λ page. not (is_mapped regions.now page)) from to)
+        (IsFirst (λ page. not (is_mapped regions.now page)) from to) }
+{
+    let hole = hole_from(regions, from);
+    if hole < to { Some(hole) } else { None }
+}
+
+// The first page from one on and below another that is mapped, or else that other.
+fn mapped_from(regions: &[Region], from: u64, to: u64) -> u64
     requires listed { AreRegions regions.now }
     requires range { from ≤ to }
     ensures above { from ≤ result }
@@ -55,6 +68,18 @@ pub(crate) fn first_mapped(regions: &[Region], from: u64, to: u64) -> u64
         }
     }
     to
+}
+
+/// The first page of a range that the heap can't grow over.
+pub(crate) fn first_taken(regions: &[Region], from: u64, to: u64) -> Option<u64>
+    requires { AreRegions regions.now }
+    ensures { MatchOption result (NoneIn (is_taken regions.now) from to) (IsFirst (is_taken regions.now) from to) }
+{
+    if to <= from {
+        return None;
+    }
+    let taken = mapped_from(regions, from, to).min(HIGHEST_END.max(from));
+    if taken < to { Some(taken) } else { None }
 }
 
 // The last so many pages from one on and below another, or else those that were found before.

@@ -1,6 +1,6 @@
 use Rattle.std.proofs.Common.{◌+◌, drop, get_or, arith}
 use Rattle.region_map.proofs.Left.{no_region, left_at, left_below}
-use Rattle.region_map.proofs.searches.first_hole.Goals as goal
+use Rattle.region_map.proofs.searches.hole_from.Goals as goal
 
 pub returns-then-at-region-clause-hole : goal.returns-then-at-region-clause-hole
 returns-then-at-region-clause-hole c =

@@ -1,6 +1,6 @@
 use Rattle.std.proofs.Common.{◌+◌, drop, get_or, arith}
 use Rattle.region_map.proofs.Left.{no_region, left_at, left_below}
-use Rattle.region_map.proofs.searches.first_mapped.Goals as goal
+use Rattle.region_map.proofs.searches.mapped_from.Goals as goal
 
 pub returns-then-from-region-clause-before : goal.returns-then-from-region-clause-before
 returns-then-from-region-clause-before c page low high =
