@@ -62,16 +62,17 @@ impl Regions {
     ghost use Rattle.machine_state.specs.Memory.{page_size};
     ghost use Rattle.machine_state.specs.Regions.{nature_at, most_regions};
     ghost use Rattle.guest_pages.specs.Pages.{PagesValue};
-    ghost use Rattle.guest_pages.specs.Changes.{AllResident};
+    ghost use Rattle.guest_pages.specs.Changes.{AllResident, IsBlank};
     ghost use Rattle.region_map.specs.Ranges.{changed_regions, IsAfter};
-    ghost use Rattle.region_map.specs.Calls.{FitPages, PassLimits, HeapPasses, IsChange, IsResized, IsProtectFault, IsBreakFault, IsFreeBelow, IsHighest, NoneIn, is_taken, lowest_page, highest_end};
+    ghost use Rattle.region_map.specs.Calls.{FitPages, AreKept, PassLimits, HeapPasses, IsChange, IsResized, IsProtectFault, IsBreakFault, IsFreeBelow, IsHighest, NoneIn, is_taken, lowest_page, highest_end};
     ghost use Rattle.region_map.specs.Lists.{MayChange};
 
     /// No region, and a heap from one address to another.
     pub fn new(heap: u64, at: u64) -> Regions
         requires page { heap % page_size ≡ 0 }
         requires above { heap ≤ at }
-        ensures { result ≡ record { regions = []; heap = heap; at = at } }
+        ensures value { result ≡ record { regions = []; heap = heap; at = at } }
+        ensures fit { (pages : PagesValue) (frames most : ℕ) → IsBlank pages frames most → FitPages pages [] }
     {
         Regions {
             regions: RegionList::new(),
@@ -86,8 +87,10 @@ impl Regions {
         self.heap
     }
 
+    /// The break. The other clause holds of regions at any time; a caller that needs it calls this.
     pub fn break_at(&self) -> u64
-        ensures { result ≡ self.now.at }
+        ensures value { result ≡ self.now.at }
+        ensures kept { AreKept self.now.regions self.now.heap self.now.at }
     {
         self.at
     }
@@ -281,3 +284,6 @@ impl Regions {
         }
     }
 }
+
+#[cfg(test)]
+mod tests;
