@@ -1,5 +1,5 @@
 -- The regions after a change of a range.
-use Rattle.std.proofs.Common.{◌≡◌, ℕ, ◌≤◌, ◌<◌, List, ap, sym, ◌∙◌, subst, arith}
+use Rattle.std.proofs.Common.{◌≡◌, ℕ, ◌<◌, List, ap, sym, ◌∙◌, subst, arith}
 use Rattle.machine_state.specs.declared.kinds.Region.{Region}
 use Rattle.machine_state.specs.Regions.{AreRegions, nature_at}
 use Rattle.region_map.specs.declared.kinds.Change.{Change}

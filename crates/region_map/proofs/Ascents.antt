@@ -1,12 +1,12 @@
 -- Regions after a change of a range are in ascending order, each as long as it can be.
-use Rattle.std.proofs.Common.{◌≡◌, ◌≢◌, ℕ, zero, suc, ◌+◌, ◌-◌, ◌≤◌, ◌<◌, ◌^◌, Bool, true, false, cond, List, [], ◌∷◌, ◌++◌, map, min, max, nat_le, nat_lt, refl, sym, ◌∙◌, ap, subst, arith}
+use Rattle.std.proofs.Common.{◌≡◌, ℕ, ◌+◌, ◌-◌, ◌≤◌, ◌<◌, Bool, true, false, cond, List, [], ◌∷◌, ◌++◌, map, min, max, nat_lt, refl, sym, ◌∙◌, arith}
 use Rattle.std.proofs.lemmas.Bool.Decides.{nat_tests}
 use Rattle.machine_state.specs.declared.kinds.Region.{Region}
 use Rattle.machine_state.specs.declared.permissions.Perms.{Perms}
-use Rattle.machine_state.specs.Regions.{Nature, nature_of, end_of, AreRegions, ComesBefore}
+use Rattle.machine_state.specs.Regions.{end_of, AreRegions, ComesBefore}
 use Rattle.region_map.specs.declared.kinds.Change.{Change}
 use Rattle.region_map.specs.declared.kinds.Change.TheVariants.{Map, Unmap, Protect}
-use Rattle.region_map.specs.Ranges.{page_end, part, parts, touches, joined, merged, with_region_perms, middle, changed_regions}
+use Rattle.region_map.specs.Ranges.{page_end, parts, touches, joined, merged, with_region_perms, middle, changed_regions}
 use Rattle.region_map.specs.Lists.{AreShort, MayChange}
 use Rattle.region_map.proofs.Joins.{touch_is, touch_not}
 
@@ -53,8 +53,10 @@ parts_ascend from to a (x ∷ xs) h = here (nat_lt (max x.first from) (min (end_
   where
     first : ℕ
     first = max x.first from
+
     end : ℕ
     end = min (end_of x) to
+
     here : (b : Bool) → nat_lt first end ≡ b → Ascend (max (end_of x) from) (parts from to xs) → Ascend (max a from) (cond b (record x { first = first; count = end - first } ∷ []) [] ++ parts from to xs)
     here true e rest =
         let lt : first < end = grind (arith, nat_tests) in
@@ -68,8 +70,10 @@ parts_end from to (x ∷ xs) = here (nat_lt (max x.first from) (min (end_of x) t
   where
     first : ℕ
     first = max x.first from
+
     end : ℕ
     end = min (end_of x) to
+
     here : (b : Bool) → nat_lt first end ≡ b → EndBy to (parts from to xs) → EndBy to (cond b (record x { first = first; count = end - first } ∷ []) [] ++ parts from to xs)
     here true e rest = let lt : first < end = grind (arith, nat_tests) in (omega arith, rest)
     here false e rest = rest
@@ -86,9 +90,10 @@ middle_ascend : (change : Change) (from to : ℕ) (xs : List Region) → Ascend 
     → Ascend from (middle change from to xs) × EndBy to (middle change from to xs)
 middle_ascend (Map perms file) from to xs h lt may = ((omega arith, omega arith, may.0, omega (arith, may.1), tt), (omega arith, tt))
 middle_ascend Unmap from to xs h lt may = (tt, tt)
-middle_ascend (Protect perms) from to xs h lt may =
-    (protected_ascend perms from (parts from to xs) may (lower from (max 0 from) (parts from to xs) (omega arith) (parts_ascend from to 0 xs h)),
-    protected_end perms to (parts from to xs) (parts_end from to xs))
+middle_ascend (Protect perms) from to xs h lt may = (
+  protected_ascend perms from (parts from to xs) may (lower from (max 0 from) (parts from to xs) (omega arith) (parts_ascend from to 0 xs h)),
+  protected_end perms to (parts from to xs) (parts_end from to xs),
+)
 
 all_ascend : (change : Change) (from to : ℕ) (xs : List Region) → Ascend 0 xs → from < to → MayChange change from to
     → Ascend 0 (parts 0 from xs ++ middle change from to xs ++ parts to page_end xs)
@@ -103,6 +108,7 @@ all_ascend change from to xs h lt may =
     end_append : (m : ℕ) (ys zs : List Region) → EndBy m ys → EndBy m zs → EndBy m (ys ++ zs)
     end_append m [] zs h g = g
     end_append m (y ∷ ys) zs h g = (h.0, end_append m ys zs h.1 g)
+
     end_later : (m n : ℕ) (ys : List Region) → m ≤ n → EndBy m ys → EndBy n ys
     end_later m n [] le h = tt
     end_later m n (y ∷ ys) le h = (omega (arith, h.0), end_later m n ys le h.1)

@@ -1,19 +1,19 @@
 -- The pages that regions have in a range, changed region by region.
-use Rattle.std.proofs.Common.{◌≡◌, ◌≢◌, ℕ, ◌+◌, ◌-◌, ◌≤◌, ◌<◌, ◌==◌, Bool, true, false, cond, ◌&&◌, ◌||◌, List, [], ◌∷◌, ◌++◌, length, take, drop, get_or, min, max, Option, Some, None, is_some, IsSome, refl, sym, ◌∙◌, ap, subst, arith, ◌/◌, ◌%◌}
+use Rattle.std.proofs.Common.{◌≡◌, ℕ, ◌+◌, ◌≤◌, ◌<◌, Bool, true, false, cond, ◌&&◌, ◌||◌, List, [], ◌∷◌, ◌++◌, length, take, drop, get_or, min, max, Option, Some, None, is_some, IsSome, refl, sym, ◌∙◌, ap, subst, arith, ◌/◌, ◌%◌}
 use Rattle.std.proofs.lemmas.Bool.Decides.{nat_tests}
 use Rattle.std.proofs.lemmas.List.{take_more}
 use Rattle.std.proofs.Math.ListN.{take-append-drop}
 use Rattle.std.specs.Option.{option_map}
 use Rattle.machine_state.specs.Memory.{page_size, Swap}
 use Rattle.machine_state.specs.declared.kinds.Region.{Region}
-use Rattle.machine_state.specs.Regions.{Nature, nature_of, end_of, has_page, nature_at, perms_of, AreRegions, FitRegions}
+use Rattle.machine_state.specs.Regions.{Nature, nature_of, end_of, has_page, nature_at, perms_of, FitRegions}
 use Rattle.guest_pages.specs.Table.{Mapped, perms_in}
 use Rattle.guest_pages.specs.Changes.{with_perms}
 use Rattle.guest_pages.specs.Pages.{PagesValue, Seat, table_of, byte_of, mark_of, seek, seat_byte, mapped_of}
 use Rattle.region_map.specs.declared.kinds.Change.{Change}
 use Rattle.region_map.specs.declared.kinds.Change.TheVariants.{Map, Unmap, Protect}
-use Rattle.region_map.specs.Ranges.{page_end, is_in}
-use Rattle.region_map.specs.Changes.{IsGone, HasPerms, Stays, IsChanged, AreChanged}
+use Rattle.region_map.specs.Ranges.{is_in}
+use Rattle.region_map.specs.Changes.{Stays, IsChanged, AreChanged}
 use Rattle.region_map.specs.Calls.{is_mapped}
 use Rattle.region_map.specs.Lists.{CanChangeAll, MapsNone}
 use Rattle.region_map.proofs.Left.{no_region, drop_here}
@@ -110,6 +110,7 @@ cover_can (Protect perms) from to i first end xs old between maps_none lt e f ma
     both_true true true e = (refl, refl)
     both_true true false e = cc
     both_true false y e = cc
+
     here : (page : ℕ) (b : Bool) → covered from to (take i xs) page ≡ b → IsSome (table_of old page) → IsSome (table_of between page)
     here page true e some = subst (λ (o : Option Mapped). IsSome o) (sym (a.inside page e).table) (some_perms perms.0 (table_of old page) some)
     here page false e some = subst (λ (o : Option Mapped). IsSome o) (sym (a.outside page e).table) some
@@ -166,6 +167,7 @@ cover_all change from to xs old new maps_none fit a = record {
       mark = s.kept.mark ∙ absent_mark old page none;
     }
     stays (Protect perms) page maps_none none s = record { table = s.table ∙ none ∙ rw none refl; kept = s.kept }
+
     inside : (page : ℕ) (b : Bool) → is_in from to page ≡ true → is_mapped xs page ≡ b → IsChanged change old new page
     inside page true e f = a.inside page (rw (e, f) refl)
     inside page false e f = stays change page maps_none (absent old xs page fit f) (a.outside page (rw (e, f) refl))

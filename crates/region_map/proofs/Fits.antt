@@ -1,15 +1,14 @@
 -- Pages and regions that fit still do after a change of a range.
-use Rattle.std.proofs.Common.{◌≡◌, ◌≢◌, ℕ, ◌+◌, ◌-◌, ◌≤◌, ◌<◌, Bool, true, false, cond, ◌&&◌, ◌||◌, List, [], ◌∷◌, length, Option, Some, None, is_some, refl, sym, ◌∙◌, ap, subst, arith}
+use Rattle.std.proofs.Common.{◌≡◌, ℕ, ◌≤◌, Bool, true, false, cond, ◌||◌, List, length, Option, Some, None, is_some, refl, sym, ◌∙◌, ap, arith}
 use Rattle.std.specs.Option.{option_map}
 use Rattle.machine_state.specs.declared.kinds.Region.{Region}
-use Rattle.machine_state.specs.declared.permissions.Perms.{Perms}
-use Rattle.machine_state.specs.Regions.{Nature, nature_at, perms_of, page_sum, most_regions, AreRegions, FitRegions}
+use Rattle.machine_state.specs.Regions.{Nature, nature_at, perms_of, page_sum, most_regions, FitRegions}
 use Rattle.guest_pages.specs.Table.{Mapped, perms_in}
-use Rattle.guest_pages.specs.Pages.{PagesValue, table_of, mapped_count}
+use Rattle.guest_pages.specs.Pages.{PagesValue, table_of}
 use Rattle.guest_pages.specs.Changes.{with_perms}
 use Rattle.region_map.specs.declared.kinds.Change.{Change}
 use Rattle.region_map.specs.declared.kinds.Change.TheVariants.{Map, Unmap, Protect}
-use Rattle.region_map.specs.Ranges.{page_end, is_in, becomes, changed, with_nature_perms, IsAfter}
+use Rattle.region_map.specs.Ranges.{page_end, is_in, becomes, with_nature_perms, IsAfter}
 use Rattle.region_map.specs.Changes.{IsChanged, AreChanged}
 use Rattle.region_map.specs.Calls.{FitPages, is_mapped}
 use Rattle.region_map.specs.Lists.{count_below, AreTallied, HasRoom}
@@ -31,7 +30,7 @@ room_for (Protect perms) from to pages old new fit after most = tt
 room_for (Map perms file) from to pages old new fit after most =
     let sum = regions_count new after.listed in
     let more = count_most (λ page. is_in from to page || is_some (table_of pages page)) (is_mapped new) page_end
-        (λ page e. ap (λ (n : Option Nature). is_some n) (after.natures page) ∙ here (is_in from to page) (nature_at old page) (is_some (table_of pages page)) (mapped_fit pages old page fit.perms) e) in
+    (λ page e. ap (λ (n : Option Nature). is_some n) (after.natures page) ∙ here (is_in from to page) (nature_at old page) (is_some (table_of pages page)) (mapped_fit pages old page fit.perms) e) in
     (tallied_fit pages old fit, omega arith)
   where
     here : (b : Bool) (n : Option Nature) (t : Bool) → t ≡ is_some n → (b || t) ≡ true → is_some (cond b (becomes (Map perms file) n) n) ≡ true

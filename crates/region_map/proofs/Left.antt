@@ -1,15 +1,14 @@
 -- Searches among regions in ascending order.
-use Rattle.std.proofs.Common.{◌≡◌, ◌≢◌, ℕ, ◌+◌, ◌-◌, ◌≤◌, ◌<◌, Bool, true, false, cond, List, [], ◌∷◌, drop, get_or, length, min, max, nat_le, Option, Some, None, is_some, refl, sym, ◌∙◌, ap, subst, arith, add-one, ◌*◌, ◌/◌, ◌⊎◌, inl, inr, ⊎_elim}
+use Rattle.std.proofs.Common.{◌≡◌, ℕ, ◌+◌, ◌-◌, ◌≤◌, ◌<◌, Bool, true, false, cond, List, [], ◌∷◌, drop, get_or, length, min, max, nat_le, Option, Some, None, is_some, refl, ◌∙◌, ap, subst, arith, add-one, ◌*◌, ◌/◌, ◌⊎◌, inl, inr, ⊎_elim}
 use Rattle.std.proofs.lemmas.Bool.{cases_lt}
 use Rattle.std.proofs.lemmas.Bool.Decides.{nat_tests}
 use Rattle.std.proofs.Math.Seq.{drop-cons}
 use Rattle.machine_state.specs.Memory.{page_size}
 use Rattle.machine_state.specs.declared.kinds.Region.{Region}
-use Rattle.machine_state.specs.Regions.{Nature, nature_of, end_of, has_page, nature_at, AreRegions}
-use Rattle.region_map.specs.Ranges.{page_end}
+use Rattle.machine_state.specs.Regions.{Nature, end_of, has_page, nature_at, AreRegions}
 use Rattle.region_map.specs.Calls.{is_mapped, NoneIn, lowest_page, highest_end, IsHighest, IsFreeBelow}
 use Rattle.region_map.specs.Lists.{IsFreeSpan}
-use Rattle.region_map.proofs.Ascents.{Ascend, regions_ascend}
+use Rattle.region_map.proofs.Ascents.{regions_ascend}
 use Rattle.region_map.proofs.Natures.{in_true, in_above}
 use Rattle.region_map.proofs.Tallies.{low_none}
 
@@ -81,25 +80,32 @@ best_later xs low top end new count found reached some best le short high free c
     kept : (last : Option ℕ) → IsHighest (IsFreeSpan xs (min low end) count) last → ((page : ℕ) → IsFreeSpan xs new count page → page + count ≤ min low end)
         → IsHighest (IsFreeSpan xs new count) last
     kept None h fit = λ page span. h page (record { low = span.low; ends = fit page span; free = span.free })
-    kept (Some best) h fit = (record { low = h.0.low; ends = (let ends = h.0.ends in omega arith); free = h.0.free },
-        λ page span. h.1 page (record { low = span.low; ends = fit page span; free = span.free }))
+    kept (Some best) h fit = (
+      record { low = h.0.low; ends = (let ends = h.0.ends in omega arith); free = h.0.free },
+      λ page span. h.1 page (record { low = span.low; ends = fit page span; free = span.free }),
+    )
+
     here : (b : Bool) → nat_le (low + count) top ≡ b → IsBest xs new count (cond b (Some (top - count)) found)
     here true e =
         let fits : low + count ≤ top = grind (arith, nat_tests) in
         let above = reached.above in
-        record { highest = (record { low = omega arith; ends = omega arith; free = λ page h lt. free page (omega arith) (omega arith) },
-            λ page span. ⊎_elim (λ (a : page + count ≤ top). omega arith) (λ (a : page + count ≤ low). omega arith) (cover page span)) }
+        record {
+          highest = (
+            record { low = omega arith; ends = omega arith; free = λ page h lt. free page (omega arith) (omega arith) },
+            λ page span. ⊎_elim (λ (a : page + count ≤ top). omega arith) (λ (a : page + count ≤ low). omega arith) (cover page span),
+          );
+        }
     here false e =
         let full : top < low + count = grind (arith, nat_tests) in
         let fit : (page : ℕ) → IsFreeSpan xs new count page → page + count ≤ min low end = λ page span.
-            let ends = span.ends in
-            ⊎_elim
-            (λ (beyond : low < page + count). ⊎_elim
-            (λ (a : page + count ≤ top). absurd (let up = span_above xs low new count page reached span beyond in omega arith))
-            (λ (a : page + count ≤ low). omega arith)
-            (cover page span))
-            (λ (within : page + count ≤ low). omega arith)
-            (cases_lt low (page + count)) in
+        let ends = span.ends in
+        ⊎_elim
+        (λ (beyond : low < page + count). ⊎_elim
+        (λ (a : page + count ≤ top). absurd (let up = span_above xs low new count page reached span beyond in omega arith))
+        (λ (a : page + count ≤ low). omega arith)
+        (cover page span))
+        (λ (within : page + count ≤ low). omega arith)
+        (cases_lt low (page + count)) in
         record { highest = kept found best.highest fit }
 
 -- before the next region
@@ -110,15 +116,15 @@ best_next xs rest x low end count found left reached some best =
     best_later xs low (min x.first end) end (min (max low (end_of x)) end) count found reached some best (omega arith) (omega arith) (omega arith)
     (λ page h lt. left_below xs rest x low page left h (omega arith))
     (λ page span. let ends = span.ends in ⊎_elim
-        (λ (beyond : low < page + count). ⊎_elim
-        (λ (over : x.first < page + count).
-        let here : is_mapped xs (page + count - 1) ≡ true = left_in xs rest x low (page + count - 1) left (omega arith) (omega arith) (omega arith) in
-        let free : is_mapped xs (page + count - 1) ≡ false = span.free (page + count - 1) (omega arith) (omega arith) in
-        absurd (cc))
-        (λ (before : page + count ≤ x.first). inl (omega arith))
-        (cases_lt x.first (page + count)))
-        (λ (within : page + count ≤ low). inr within)
-        (cases_lt low (page + count)))
+    (λ (beyond : low < page + count). ⊎_elim
+    (λ (over : x.first < page + count).
+    let here : is_mapped xs (page + count - 1) ≡ true = left_in xs rest x low (page + count - 1) left (omega arith) (omega arith) (omega arith) in
+    let free : is_mapped xs (page + count - 1) ≡ false = span.free (page + count - 1) (omega arith) (omega arith) in
+    absurd (cc))
+    (λ (before : page + count ≤ x.first). inl (omega arith))
+    (cases_lt x.first (page + count)))
+    (λ (within : page + count ≤ low). inr within)
+    (cases_lt low (page + count)))
 
 -- and behind the last
 pub best_last : (xs : List Region) (low end count : ℕ) (found : Option ℕ) → AreLeft xs [] low → IsReached xs low → 0 < count → IsBest xs (min low end) count found

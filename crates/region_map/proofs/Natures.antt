@@ -1,5 +1,5 @@
 -- What pages are by lists of regions.
-use Rattle.std.proofs.Common.{◌≡◌, ◌≢◌, ℕ, zero, suc, ◌+◌, ◌-◌, ◌≤◌, ◌<◌, ◌^◌, ◌==◌, Bool, true, false, cond, ◌&&◌, ◌||◌, List, [], ◌∷◌, ◌++◌, map, min, max, nat_le, nat_lt, Option, Some, None, refl, sym, ◌∙◌, ap, subst, arith, ⊎_elim}
+use Rattle.std.proofs.Common.{◌≡◌, ℕ, ◌+◌, ◌-◌, ◌≤◌, ◌<◌, Bool, true, false, cond, ◌&&◌, ◌||◌, List, [], ◌∷◌, ◌++◌, map, min, max, nat_le, nat_lt, Option, Some, None, refl, sym, ◌∙◌, ap, arith, ⊎_elim}
 use Rattle.std.proofs.lemmas.Bool.{cases_lt}
 use Rattle.std.proofs.lemmas.Bool.Decides.{nat_tests}
 use Rattle.std.specs.Option.{option_map}
@@ -36,6 +36,7 @@ joined_natures x (y ∷ ys) page = here (touches x y) refl
     two true b n m rest e = refl
     two false true n m rest e = ap (λ (k : Nature). let o : Option Nature = Some k in o) e
     two false false n m rest e = refl
+
     here : (b : Bool) → touches x y ≡ b
         → nature_at (cond b (record x { count = x.count + y.count } ∷ ys) (x ∷ y ∷ ys)) page ≡ nature_at (x ∷ y ∷ ys) page
     here false e = refl

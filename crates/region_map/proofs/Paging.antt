@@ -1,12 +1,11 @@
 -- Pages where a range of them changes.
-use Rattle.std.proofs.Common.{◌≡◌, ◌≢◌, ℕ, ◌+◌, ◌-◌, ◌*◌, ◌/◌, ◌%◌, ◌≤◌, ◌<◌, ◌==◌, Bool, true, false, cond, ◌&&◌, ◌||◌, List, [], ◌∷◌, ◌++◌, length, Option, Some, None, is_some, IsSome, refl, sym, ◌∙◌, ap, subst, arith, ⊎_elim}
+use Rattle.std.proofs.Common.{◌≡◌, ◌≢◌, ℕ, ◌+◌, ◌/◌, ◌≤◌, ◌<◌, ◌==◌, Bool, true, false, cond, ◌||◌, length, Option, Some, None, is_some, IsSome, refl, sym, ◌∙◌, ap, subst, arith, ⊎_elim}
 use Rattle.std.proofs.lemmas.Bool.{cases_eq, eq-eqb, ne_eqb}
 use Rattle.std.proofs.lemmas.Bool.Decides.{nat_tests, Decides-eqb}
 use Rattle.std.specs.Option.{option_map}
 use Rattle.machine_state.specs.Memory.{page_size, Swap, zeroed}
 use Rattle.machine_state.specs.declared.permissions.Perms.{Perms}
 use Rattle.guest_pages.specs.declared.entry.Mark.{Mark}
-use Rattle.guest_pages.specs.declared.entry.Mark.TheVariants.{Fresh}
 use Rattle.guest_pages.specs.Table.{Mapped, Table, with_entry, in_frame}
 use Rattle.guest_pages.specs.Pages.{PagesValue, table_of, byte_of, mark_of, mapped_count}
 use Rattle.guest_pages.specs.Changes.{KeepsSize, KeepsPage, IsMapped, IsUnmapped, IsProtected, with_perms, with_mark}
@@ -14,7 +13,7 @@ use Rattle.region_map.specs.declared.kinds.Change.{Change}
 use Rattle.region_map.specs.declared.kinds.Change.TheVariants.{Map, Unmap, Protect}
 use Rattle.region_map.specs.Ranges.{page_end, is_in}
 use Rattle.region_map.specs.Changes.{IsFresh, IsGone, HasPerms, Stays, IsChanged, AreChanged}
-use Rattle.region_map.specs.Lists.{count_below, AreTallied, CanChange, CanChangeAll, HasRoom}
+use Rattle.region_map.specs.Lists.{count_below, AreTallied, CanChange, CanChangeAll}
 use Rattle.region_map.proofs.Natures.{in_true, in_is, in_above}
 use Rattle.region_map.proofs.Tallies.{count_one, count_less, count_same}
 
@@ -63,6 +62,7 @@ map_changes old new page perms file more m framed = record {
   where
     here : table_of new page ≡ Some m.entry
     here = table_in old new page (Some m.entry) m.table
+
     fresh : IsFresh old new perms.0 page
     fresh = record {
       entry = m.entry;
@@ -93,6 +93,7 @@ protect_changes old new page perms m = record {
   where
     kept : (other : ℕ) → KeepsPage old new other
     kept other = record { mark = ap (λ (k : ℕ → Option Mark). k other) m.marks; bytes = λ swap addr e. ap (λ (f : ℕ → ℕ). f addr) (m.byte swap) }
+
     has : HasPerms old new perms.0 page
     has = record { table = table_in old new page _ m.table; kept = kept page }
 
@@ -104,7 +105,7 @@ tally_one : (old new : PagesValue) (page : ℕ) (entry : Option Mapped) → page
     → count_below (mapped_in new) page_end + one (mapped_in old page) ≡ count_below (mapped_in old) page_end + one (is_some entry)
 tally_one old new page entry low table =
     let same : (other : ℕ) → other ≢ page → mapped_in new other ≡ mapped_in old other = λ other ne.
-        ap (λ (t : Table). is_some (t other)) table ∙ rw (ne_eqb other page ne) refl in
+    ap (λ (t : Table). is_some (t other)) table ∙ rw (ne_eqb other page ne) refl in
     let here : mapped_in new page ≡ is_some entry = ap (λ (o : Option Mapped). is_some o) (table_in old new page entry table) in
     let counts = count_one (mapped_in new) (mapped_in old) page_end page same low in
     rw here at counts
@@ -137,6 +138,7 @@ protect_tallies old new page perms m t = record {
     is_same : (o : Option Mapped) → is_some (option_map (with_perms perms) o) ≡ is_some o
     is_same None = refl
     is_same (Some e) = refl
+
     same : (other : ℕ) → mapped_in new other ≡ mapped_in old other
     same other = ⊎_elim
         (λ (e : other ≡ page). ap (λ (t : Table). is_some (t other)) m.table ∙ rw (eq-eqb other page e) (is_same (table_of old page) ∙ ap (mapped_in old) (sym e)))
@@ -219,6 +221,7 @@ change_both change some others all old between new a b is = record {
     inside page true false e f h = change_stay change old between new page (a.inside page e) (b.outside page f)
     inside page false true e f h = stay_change change old between new page (a.outside page e) (b.inside page f)
     inside page false false e f h = cc
+
     outside : (page : ℕ) (x y : Bool) → some page ≡ x → others page ≡ y → (x || y) ≡ false → Stays old new page
     outside page true y e f h = cc
     outside page false true e f h = cc

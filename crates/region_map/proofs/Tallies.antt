@@ -1,9 +1,9 @@
 -- How many numbers below one pass a test.
-use Rattle.std.proofs.Common.{◌≡◌, ◌≢◌, ℕ, zero, suc, ◌+◌, ◌-◌, ◌≤◌, ◌<◌, ◌==◌, Bool, true, false, cond, ◌&&◌, ◌||◌, List, [], ◌∷◌, min, nat_le, nat_lt, Option, Some, None, is_some, refl, sym, ◌∙◌, ap, subst, arith, ⊎_elim}
+use Rattle.std.proofs.Common.{◌≡◌, ◌≢◌, ℕ, zero, suc, ◌+◌, ◌-◌, ◌≤◌, ◌<◌, Bool, true, false, cond, ◌||◌, List, [], ◌∷◌, min, Option, Some, is_some, refl, sym, ◌∙◌, arith, ⊎_elim}
 use Rattle.std.proofs.lemmas.Bool.{cases_eq, cases_lt}
 use Rattle.std.proofs.lemmas.Bool.Decides.{nat_tests}
 use Rattle.machine_state.specs.declared.kinds.Region.{Region}
-use Rattle.machine_state.specs.Regions.{Nature, nature_of, end_of, has_page, nature_at, page_sum, AreRegions, ComesBefore}
+use Rattle.machine_state.specs.Regions.{Nature, nature_of, end_of, has_page, nature_at, page_sum, AreRegions}
 use Rattle.region_map.specs.Ranges.{page_end, is_in}
 use Rattle.region_map.specs.Calls.{is_mapped}
 use Rattle.region_map.specs.Lists.{count_below}
@@ -117,6 +117,7 @@ ascend_count from (x ∷ xs) h =
     here : (b : Bool) (rest : Option Nature) → is_some (cond b (Some (nature_of x)) rest) ≡ (b || is_some rest)
     here true rest = refl
     here false rest = refl
+
     all_of : (n first count sum tally total : ℕ) → first + count ≤ n → sum ≡ tally → total ≡ (min n (first + count) - first) + tally → count + sum ≡ total
     all_of n first count sum tally total le e f = omega arith
 

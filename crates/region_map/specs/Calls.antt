@@ -1,5 +1,5 @@
 -- What a contract sees of the regions, and what the calls refuse.
-use Rattle.std.specs.Prelude.{ℕ, ◌≡◌, ◌≢◌, ◌≤◌, ◌<◌, ◌+◌, ◌-◌, ◌*◌, ◌/◌, ◌%◌, ◌^◌, ◌⊎◌, ◌||◌, Bool, true, false, not, nat_le, is_some, List, length, Option, Some, None}
+use Rattle.std.specs.Prelude.{ℕ, ◌≡◌, ◌≤◌, ◌<◌, ◌+◌, ◌-◌, ◌*◌, ◌/◌, ◌%◌, ◌⊎◌, ◌||◌, Bool, true, false, not, nat_le, is_some, List, length, Option, Some, None}
 use Rattle.machine_state.specs.Memory.{page_size}
 use Rattle.machine_state.specs.Regions.{nature_at, page_sum, most_regions, AreRegions, FitRegions}
 use Rattle.machine_state.specs.declared.kinds.Region.{Region}

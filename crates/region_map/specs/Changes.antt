@@ -1,5 +1,5 @@
 -- What the pages are where a range of them changes.
-use Rattle.std.specs.Prelude.{ℕ, ◌≡◌, ◌/◌, Bool, true, false, if◌then◌else◌, List, Option, Some, None}
+use Rattle.std.specs.Prelude.{ℕ, ◌≡◌, ◌/◌, Bool, true, false, if◌then◌else◌, Some, None}
 use Rattle.std.specs.Option.{option_map}
 use Rattle.machine_state.specs.Memory.{page_size, Swap}
 use Rattle.guest_pages.specs.declared.entry.Mark.TheVariants.{Fresh}

@@ -1,5 +1,5 @@
 -- Lists of regions as they are made. No public clause cites this module.
-use Rattle.std.specs.Prelude.{ℕ, ◌≡◌, ◌≤◌, ◌<◌, ◌+◌, ◌^◌, ◌||◌, Bool, true, false, is_some, if◌then◌else◌, zero, suc, List, [], ◌∷◌, length, All, Option, Some, None, IsSome}
+use Rattle.std.specs.Prelude.{ℕ, ◌≡◌, ◌≤◌, ◌<◌, ◌+◌, ◌^◌, ◌||◌, Bool, true, is_some, if◌then◌else◌, zero, suc, List, [], ◌∷◌, length, Option, Some, None, IsSome}
 use Rattle.machine_state.specs.Regions.{end_of}
 use Rattle.machine_state.specs.declared.kinds.Region.{Region}
 use Rattle.machine_state.specs.declared.permissions.Perms.{Perms}

@@ -115,7 +115,13 @@ impl Regions {
     }
 
     // The regions after a change of a range, where they are within both limits.
-    fn list_after(&self, pages: &Pages, from: u64, to: u64, change: Change) -> Result<RegionList, Full>
+    fn list_after(
+        &self,
+        pages: &Pages,
+        from: u64,
+        to: u64,
+        change: Change,
+    ) -> Result<RegionList, Full>
         requires range { from < to }
         requires may { MayChange change from to }
         ensures { MatchResult result

@@ -46,7 +46,14 @@ fn done(res: Result<(), Full>) -> Answer {
     }
 }
 
-fn map(regions: &mut Regions, pages: &mut Pages, from: u64, count: u64, perms: u8, file: bool) -> Answer
+fn map(
+    regions: &mut Regions,
+    pages: &mut Pages,
+    from: u64,
+    count: u64,
+    perms: u8,
+    file: bool,
+) -> Answer
     requires { FitPages pages.old regions.old.regions }
     ensures { FitPages pages.new regions.new.regions }
 {
@@ -273,24 +280,48 @@ impl Plain {
 
 // A drawn call on pages of a plain list, most of them within its first 64.
 fn drawn(plain: &Plain, draw: u64) -> Step {
-    let from = plain.base.wrapping_add((draw >> 8) % 64).min(HIGHEST_END - 1);
+    let from = plain
+        .base
+        .wrapping_add((draw >> 8) % 64)
+        .min(HIGHEST_END - 1);
     let count = ((draw >> 16) % 12).wrapping_add(1).min(HIGHEST_END - from);
     let perms = ((draw >> 24) % 8) as u8;
     match (draw >> 40) % 8 {
         0..=2 => Step::Map(from, count, perms, (draw >> 32) % 2 == 0),
         3 => Step::Unmap(from, count),
         4..=5 => Step::Protect(from, (count / 4).max(1), perms),
-        _ => Step::Break(plain.heap.wrapping_sub(PAGE_SIZE).wrapping_add((draw >> 8) % 0x14000)),
+        _ => Step::Break(
+            plain
+                .heap
+                .wrapping_sub(PAGE_SIZE)
+                .wrapping_add((draw >> 8) % 0x14000),
+        ),
     }
 }
 
 fn expect_page(rt: &impl Abort, regions: &Regions, pages: &Pages, page: u64, want: Option<Nature>) {
     let addr = page.wrapping_mul(PAGE_SIZE);
-    assert_eq!(rt; regions.origin(addr), want.map(|nature| nature.file), "at {page:#x}");
+    assert_eq!(rt;
+        regions.origin(addr),
+        want.map(|nature| nature.file),
+        "at {page:#x}"
+    );
     let perms = want.map_or(0, |nature| nature.perms);
-    assert_eq!(rt; pages.allowed(addr, 1, Kind::Read).is_ok(), perms != 0, "at {page:#x}");
-    assert_eq!(rt; pages.allowed(addr, 1, Kind::Write).is_ok(), perms & 2 != 0, "at {page:#x}");
-    assert_eq!(rt; pages.allowed(addr, 1, Kind::Execute).is_ok(), perms & 4 != 0, "at {page:#x}");
+    assert_eq!(rt;
+        pages.allowed(addr, 1, Kind::Read).is_ok(),
+        perms != 0,
+        "at {page:#x}"
+    );
+    assert_eq!(rt;
+        pages.allowed(addr, 1, Kind::Write).is_ok(),
+        perms & 2 != 0,
+        "at {page:#x}"
+    );
+    assert_eq!(rt;
+        pages.allowed(addr, 1, Kind::Execute).is_ok(),
+        perms & 4 != 0,
+        "at {page:#x}"
+    );
 }
 
 fn expect_plain(rt: &impl Abort, regions: &Regions, pages: &Pages, plain: &Plain) {
@@ -305,7 +336,9 @@ fn expect_plain(rt: &impl Abort, regions: &Regions, pages: &Pages, plain: &Plain
 fn expect_free(rt: &impl Abort, regions: &Regions, plain: &Plain, draw: u64) {
     let end = plain.base.wrapping_add((draw >> 8) % 80);
     let count = ((draw >> 16) % 12).wrapping_add(1);
-    let top = end.wrapping_mul(PAGE_SIZE).wrapping_add((draw >> 32) % PAGE_SIZE);
+    let top = end
+        .wrapping_mul(PAGE_SIZE)
+        .wrapping_add((draw >> 32) % PAGE_SIZE);
     let found = regions.free_below(top, count).map(|addr| addr / PAGE_SIZE);
     assert_eq!(rt; found, plain.free_below(end, count), "at {end:#x}, {count}");
 }
@@ -314,7 +347,11 @@ fn expect_free(rt: &impl Abort, regions: &Regions, plain: &Plain, draw: u64) {
 fn expect_free_at(rt: &impl Abort, regions: &Regions, cases: &[(u64, u64, Option<u64>)]) {
     for (top, count, want) in cases {
         if *count > 0 {
-            assert_eq!(rt; regions.free_below(*top, *count), *want, "at {top:#x}, {count}");
+            assert_eq!(rt;
+                regions.free_below(*top, *count),
+                *want,
+                "at {top:#x}, {count}"
+            );
         }
     }
 }
@@ -326,7 +363,13 @@ fn expect_byte(rt: &impl Abort, pages: &Pages, addr: u64, want: Result<u8, Miss>
 }
 
 // So many drawn calls, on regions and on a plain list.
-fn expect_same(rt: &impl Abort, regions: &mut Regions, pages: &mut Pages, plain: &mut Plain, draws: u32)
+fn expect_same(
+    rt: &impl Abort,
+    regions: &mut Regions,
+    pages: &mut Pages,
+    plain: &mut Plain,
+    draws: u32,
+)
     requires { FitPages pages.old regions.old.regions }
     ensures { FitPages pages.new regions.new.regions }
 {
@@ -421,7 +464,11 @@ fn regions_join_split_and_go(rt: HostRuntime) -> Result<(), Fail> {
             (Step::Unmap(25, 0x7_FFFF_FFE5), Answer::Done),
         ],
     );
-    expect_regions(&rt, &regions, &[(24, 1, 1, true), (0x7_FFFF_FFFE, 1, 7, false)]);
+    expect_regions(
+        &rt,
+        &regions,
+        &[(24, 1, 1, true), (0x7_FFFF_FFFE, 1, 7, false)],
+    );
     Ok(())
 }
 
@@ -493,7 +540,10 @@ fn a_break_can_lie_anywhere(rt: HostRuntime) -> Result<(), Fail> {
 fn mapped_pages_are_zeros(rt: HostRuntime) -> Result<(), Fail> {
     let mut pages = Pages::new(rt.alloc(), 8, 16)?;
     let mut regions = Regions::new(0x20000, 0x20000);
-    assert_eq!(rt; map(&mut regions, &mut pages, 16, 3, 3, false), Answer::Done);
+    assert_eq!(rt;
+        map(&mut regions, &mut pages, 16, 3, 3, false),
+        Answer::Done
+    );
     assert_eq!(rt; pages.write(0x10FFF, &[7, 8]), Ok(()));
     assert_eq!(rt; pages.write(0x12000, &[9]), Ok(()));
     assert_eq!(rt; map(&mut regions, &mut pages, 17, 1, 3, true), Answer::Done);
@@ -506,7 +556,10 @@ fn mapped_pages_are_zeros(rt: HostRuntime) -> Result<(), Fail> {
     expect_byte(&rt, &pages, 0x10FFF, Ok(7));
     assert_eq!(rt; unmap(&mut regions, &mut pages, 16, 1), Answer::Done);
     expect_byte(&rt, &pages, 0x10FFF, Err(Miss::Unmapped(0x10FFF)));
-    assert_eq!(rt; map(&mut regions, &mut pages, 16, 1, 3, false), Answer::Done);
+    assert_eq!(rt;
+        map(&mut regions, &mut pages, 16, 1, 3, false),
+        Answer::Done
+    );
     expect_byte(&rt, &pages, 0x10FFF, Ok(0));
     assert_eq!(rt; regions.origin(0x13000), None);
     Ok(())
@@ -527,7 +580,11 @@ fn five_hundred_and_twelve_pages(rt: HostRuntime) -> Result<(), Fail> {
             (Step::Map(0x1000, 256, 3, false), Answer::Full),
         ],
     );
-    expect_regions(&rt, &regions, &[(0x400, 1, 5, false), (0x7_FFFE_FF00, 256, 3, false)]);
+    expect_regions(
+        &rt,
+        &regions,
+        &[(0x400, 1, 5, false), (0x7_FFFE_FF00, 256, 3, false)],
+    );
     expect_answers(
         &rt,
         &mut regions,
@@ -549,7 +606,14 @@ fn map_singles(rt: &impl Abort, regions: &mut Regions, pages: &mut Pages, from: 
     ensures { FitPages pages.new regions.new.regions }
 {
     for i in 0..count {
-        let answer = map(regions, pages, from.wrapping_add(i), 1, (i % 2) as u8, false);
+        let answer = map(
+            regions,
+            pages,
+            from.wrapping_add(i),
+            1,
+            (i % 2) as u8,
+            false,
+        );
         assert_eq!(rt; answer, Answer::Done);
     }
 }

@@ -1,4 +1,4 @@
-use Rattle.std.proofs.Common.{◌≡◌, ◌+◌, List, [], ◌∷◌, ◌++◌, length, refl, sym, ap, ◌∙◌, arith, length-append}
+use Rattle.std.proofs.Common.{◌≡◌, ◌+◌, List, [], ◌∷◌, ◌++◌, length, refl, sym, ap, ◌∙◌, length-append}
 use Rattle.machine_state.specs.declared.kinds.Region.{Region}
 use Rattle.region_map.specs.Lists.{appended}
 use Rattle.region_map.proofs.Joins.{appended_last}

@@ -1,8 +1,8 @@
-use Rattle.std.proofs.Common.{◌≡◌, List, ◌∷◌, ◌≤◌, ◌<◌, ◌+◌, get_or, drop, length, map, ap, false, arith, add-one}
+use Rattle.std.proofs.Common.{◌≡◌, List, ◌∷◌, ◌+◌, get_or, drop, length, map, ap, false, arith, add-one}
 use Rattle.std.proofs.Math.Seq.{drop-cons}
 use Rattle.machine_state.specs.declared.kinds.Region.{Region}
 use Rattle.region_map.specs.Lists.{appended_all, given}
-use Rattle.region_map.specs.Ranges.{part, parts}
+use Rattle.region_map.specs.Ranges.{parts}
 use Rattle.region_map.proofs.Joins.{parts_longer}
 use Rattle.region_map.proofs.lists.append_parts.Goals as goal
 

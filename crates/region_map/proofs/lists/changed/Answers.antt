@@ -1,6 +1,3 @@
-use Rattle.std.proofs.Common.{◌≤◌, arith, sym, subst, List}
-use Rattle.machine_state.specs.declared.kinds.Region.{Region}
-use Rattle.region_map.specs.Ranges.{IsAfter}
 use Rattle.region_map.proofs.Ascents.{regions_short}
 use Rattle.region_map.proofs.After.{is_after}
 use Rattle.region_map.proofs.lists.changed.Goals as goal

@@ -1,4 +1,4 @@
-use Rattle.std.proofs.Common.{◌≡◌, ◌<◌, ◌++◌, [], List, length, map, refl, ap, ◌∙◌, None, subst, OnOk, OnErr}
+use Rattle.std.proofs.Common.{◌≡◌, ◌<◌, List, length, map, refl, None, subst, OnOk, OnErr}
 use Rattle.machine_state.specs.declared.kinds.Region.{Region}
 use Rattle.machine_state.specs.Regions.{most_regions}
 use Rattle.region_map.specs.Ranges.{parts, middle, page_end, changed_regions}

@@ -1,5 +1,4 @@
-use Rattle.std.proofs.Common.{◌≡◌, ◌+◌, ◌<◌, ◌∙◌, List, length, drop, subst, arith}
-use Rattle.machine_state.specs.declared.kinds.Region.{Region}
+use Rattle.std.proofs.Common.{◌+◌, ◌<◌, length, drop, subst}
 use Rattle.machine_state.specs.Regions.{AreRegions}
 use Rattle.region_map.proofs.Left.{drop_here}
 use Rattle.region_map.proofs.Paging.{resident_next}
@@ -19,21 +18,21 @@ loop-region-preserved c =
     let lt : i < length xs = c.loop-region-test.true in
     let left : AreRegions (drop (i + 1) xs) = (subst AreRegions (drop_here xs i lt) c.loop-region.invariant.left).4 in
     elim c.match-part.branch [
-      in-Some w ↦
-        let next = cover_next c.args.change c.args.from c.args.to i w.in-Some.part.first (w.in-Some.part.first + w.in-Some.part.count) xs c.args.pages.now c.loop-region.pages
-            w.change_pages.new.pages lt w.in-Some.ensures.span.0 w.in-Some.ensures.span.2 c.loop-region.invariant.changed w.change_pages.ensures.changed in
-        record {
-          left = left;
-          changed = rw w.pages-is next;
-          tallied = rw w.pages-is (λ t. w.change_pages.ensures.tallied (c.loop-region.invariant.tallied t));
-          resident = rw w.pages-is (λ e all. w.change_pages.ensures.resident (resident_next c.args.pages.now c.loop-region.pages c.loop-region.invariant.changed.size e)
-              (c.loop-region.invariant.resident e all));
-        }
-    | in-None w ↦
-        record {
-          left = left;
-          changed = rw w.pages-is (cover_none c.args.change c.args.from c.args.to i xs c.args.pages.now c.loop-region.pages lt w.in-None.ensures.span c.loop-region.invariant.changed);
-          tallied = rw w.pages-is c.loop-region.invariant.tallied;
-          resident = rw w.pages-is c.loop-region.invariant.resident;
-        }
+      | in-Some w ↦
+          let next = cover_next c.args.change c.args.from c.args.to i w.in-Some.part.first (w.in-Some.part.first + w.in-Some.part.count) xs c.args.pages.now c.loop-region.pages
+          w.change_pages.new.pages lt w.in-Some.ensures.span.0 w.in-Some.ensures.span.2 c.loop-region.invariant.changed w.change_pages.ensures.changed in
+          record {
+            left = left;
+            changed = rw w.pages-is next;
+            tallied = rw w.pages-is (λ t. w.change_pages.ensures.tallied (c.loop-region.invariant.tallied t));
+            resident = rw w.pages-is (λ e all. w.change_pages.ensures.resident (resident_next c.args.pages.now c.loop-region.pages c.loop-region.invariant.changed.size e)
+                (c.loop-region.invariant.resident e all));
+          }
+      | in-None w ↦
+          record {
+            left = left;
+            changed = rw w.pages-is (cover_none c.args.change c.args.from c.args.to i xs c.args.pages.now c.loop-region.pages lt w.in-None.ensures.span c.loop-region.invariant.changed);
+            tallied = rw w.pages-is c.loop-region.invariant.tallied;
+            resident = rw w.pages-is c.loop-region.invariant.resident;
+          }
     ]

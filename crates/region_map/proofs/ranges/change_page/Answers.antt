@@ -1,4 +1,4 @@
-use Rattle.std.proofs.Common.{◌≡◌, ◌<◌, ◌*◌, ◌/◌, arith}
+use Rattle.std.proofs.Common.{◌<◌, ◌*◌, ◌/◌, arith}
 use Rattle.machine_state.specs.Memory.{page_size}
 use Rattle.region_map.specs.Ranges.{page_end}
 use Rattle.region_map.proofs.Paging.{map_tallies, unmap_tallies}

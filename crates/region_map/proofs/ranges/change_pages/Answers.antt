@@ -1,5 +1,4 @@
-use Rattle.std.proofs.Common.{◌≡◌, ◌∙◌, length, sym, arith}
-use Rattle.guest_pages.specs.Changes.{AllResident}
+use Rattle.std.proofs.Common.{arith}
 use Rattle.region_map.proofs.Paging.{can_next, change_next, resident_next}
 use Rattle.region_map.proofs.ranges.change_pages.Goals as goal
 

@@ -1,5 +1,4 @@
-use Rattle.std.proofs.Common.{◌≡◌, sym, subst}
-use Rattle.region_map.specs.declared.kinds.Change.{Change}
+use Rattle.std.proofs.Common.{sym, subst}
 use Rattle.region_map.specs.Lists.{MapsNone}
 use Rattle.region_map.proofs.Covers.{cover_all}
 use Rattle.region_map.proofs.ranges.change_range.Goals as goal

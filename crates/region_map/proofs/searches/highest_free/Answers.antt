@@ -1,8 +1,8 @@
 use Rattle.std.proofs.Math.ListN.{drop_of_length-le}
-use Rattle.std.proofs.Common.{◌≡◌, ◌+◌, ◌-◌, [], List, Option, Some, ℕ, cond, nat_le, min, max, drop, get_or, subst, arith, refl, ◌∙◌}
+use Rattle.std.proofs.Common.{◌≡◌, ◌+◌, [], List, min, max, drop, get_or, subst, arith}
 use Rattle.machine_state.specs.declared.kinds.Region.{Region}
 use Rattle.machine_state.specs.Regions.{end_of}
-use Rattle.region_map.proofs.Left.{no_region, AreLeft, IsBest, IsReached, left_at, left_one, best_next, best_last, reached_next}
+use Rattle.region_map.proofs.Left.{no_region, AreLeft, left_at, left_one, best_next, best_last, reached_next}
 use Rattle.region_map.proofs.searches.highest_free.Goals as goal
 
 pub loop-region-preserved : goal.loop-region-preserved

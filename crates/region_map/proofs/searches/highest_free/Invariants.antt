@@ -1,4 +1,4 @@
-use Rattle.std.proofs.Common.{◌<◌, drop, min}
+use Rattle.std.proofs.Common.{drop, min}
 use Rattle.region_map.proofs.Left.{AreLeft, IsBest, IsReached}
 use Rattle.region_map.proofs.searches.highest_free.Given as goal
 
