@@ -7,3 +7,4 @@ pub mod Left
 pub mod Paging
 pub mod Covers
 pub mod Fits
+pub mod Unique

@@ -2,6 +2,7 @@
 #![tactic(auto)]
 
 mod kinds;
+mod laws;
 mod lists;
 mod ranges;
 mod regions;
@@ -9,5 +10,6 @@ mod searches;
 
 pub use guest_pages::{Full, Pages};
 pub use kinds::{BreakFault, ProtectFault};
+pub use laws::regions_law;
 pub use machine_state::Perms;
 pub use regions::Regions;
