@@ -1,0 +1,10 @@
+pub mod Joins
+pub mod Natures
+pub mod Ascents
+pub mod After
+pub mod Tallies
+pub mod Left
+pub mod Paging
+pub mod Covers
+pub mod Fits
+pub mod Unique

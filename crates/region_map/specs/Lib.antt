@@ -1,0 +1,4 @@
+pub mod Ranges
+pub mod Changes
+pub mod Calls
+pub mod Lists

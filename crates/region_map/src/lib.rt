@@ -1,0 +1,15 @@
+//! The regions of guest memory: ranges of pages that are mapped, unmapped and protected together or not at all, and the heap.
+#![tactic(auto)]
+
+mod kinds;
+mod laws;
+mod lists;
+mod ranges;
+mod regions;
+mod searches;
+
+pub use guest_pages::{Full, Pages};
+pub use kinds::{BreakFault, ProtectFault};
+pub use laws::regions_law;
+pub use machine_state::Perms;
+pub use regions::Regions;
