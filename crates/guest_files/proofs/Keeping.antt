@@ -132,8 +132,8 @@ kept_at_start entries cap given bytes room =
         files = λ k d within. record {
           name = (bytes k d within).name;
           content = (bytes k d within).content;
-          most = given.most k d within;
-          absent = given.absent k d within;
+          most = (given.fit k d within).most;
+          absent = (given.fit k d within).absent;
         };
         descriptors = refl;
         place = first_hold (IsPlace n)

@@ -1,8 +1,8 @@
 -- The file with a name, by its first place.
-use Rattle.std.proofs.Common.{◌≡◌, ℕ, ◌<◌, Bool, true, false, List, length, get_or, map, Some, None, ap, sym, ◌∙◌, arith}
-use Rattle.std.proofs.lemmas.List.{get_or-map}
+use Rattle.std.proofs.Common.{◌≡◌, ◌≢◌, ℕ, ◌<◌, Bool, true, false, List, length, get_or, map, Some, None, ap, sym, ◌∙◌, arith}
+use Rattle.std.proofs.lemmas.List.{get_or-map, get_or_default}
 use Rattle.std.proofs.lemmas.List.Sums.{position_or_len_is}
-use Rattle.std.specs.List.{position_or_len}
+use Rattle.std.specs.List.{AllPairs, position_or_len}
 use Rattle.std.specs.Prelude.{string_bytes}
 use Rattle.std.specs.Str.{bytes_eq}
 use Rattle.machine_state.specs.World.{GuestFile}
@@ -38,3 +38,15 @@ entry_named entries number entry name b within is named =
     let same : get_or (map guest_file entries) number no_file ≡ guest_file entry =
     get_or-map guest_file entries number entry no_file within ∙ ap guest_file (sym is) in
     ap (λ (file : GuestFile). bytes_eq file.name name) same ∙ named
+
+-- where each name is found at its own file, the names are different
+pub distinct_names : (files : List GuestFile) → ((k : ℕ) → k < length files → number_of files (get_or files k no_file).name ≡ Some k) →
+    AllPairs (λ a b. a.name ≢ b.name) files
+distinct_names files own = λ i j d below within same.
+    let one : get_or files i d ≡ get_or files i no_file = get_or_default files i d no_file (omega arith) in
+    let other : get_or files j d ≡ get_or files j no_file = get_or_default files j d no_file within in
+    let name : (get_or files i no_file).name ≡ (get_or files j no_file).name =
+    ap (λ (f : GuestFile). f.name) (sym one) ∙ (same ∙ ap (λ (f : GuestFile). f.name) other) in
+    let equal : Some i ≡ Some j = sym (own i (omega arith)) ∙ (ap (number_of files) name ∙ own j within) in
+    let numbers : i ≡ j = (cc) in
+    omega (arith, numbers, below)

@@ -17,18 +17,19 @@ file_count = 16
 abbrev pub name_max : ℕ
 name_max = 255
 
--- a file's name has 1 to 255 bytes
-abbrev pub IsNamed : GuestFile → Type 0
-IsNamed file = (1 ≤ length file.name) × (length file.name ≤ name_max)
-
--- the files that there may be at the start: at most 16, of different names, none longer than the cap, and one that doesn't
+-- a file that may be given at the start: its name has 1 to 255 bytes, it is no longer than the cap, and one that doesn't
 -- exist is empty
+pub record IsFit (cap : ℕ) (file : GuestFile) : Type 0 where
+  pub named : 1 ≤ length file.name
+  pub short : length file.name ≤ name_max
+  pub most : length file.content ≤ cap
+  pub absent : file.exists ≡ false → length file.content ≡ 0
+
+-- the files that there may be at the start: at most 16, of different names
 pub record AreEntries (cap : ℕ) (files : List GuestFile) : Type 0 where
   pub count : length files ≤ file_count
-  pub named : All IsNamed files
+  pub fit : All (IsFit cap) files
   pub distinct : AllPairs (λ a b. a.name ≢ b.name) files
-  pub most : All (λ file. length file.content ≤ cap) files
-  pub absent : All (λ file. file.exists ≡ false → length file.content ≡ 0) files
 
 -- a file with nothing in it, which stands where a number is no file's
 abbrev pub no_file : GuestFile

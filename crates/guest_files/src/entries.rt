@@ -3,6 +3,7 @@ ghost use Rattle.std.specs.Prelude.{◌≡◌, ◌<◌, ◌≤◌, All, IfSome, 
 ghost use Rattle.std.specs.Str.{bytes_eq};
 ghost use Rattle.machine_state.specs.Memory.{AreBytes};
 ghost use Rattle.guest_files.specs.Entries.{guest_file};
+ghost use Rattle.guest_files.specs.Files.{IsFit};
 ghost use Rattle.guest_files.specs.Kept.{HasBytes, HasRoom};
 ghost use Rattle.guest_files.specs.Open.{number_of as number_in};
 
@@ -74,7 +75,7 @@ fn reserve(entry: &mut Entry, cap: usize) -> Result<(), AllocError>
 
 /// Takes the memory that files may need, where they can be written.
 pub fn reserve_all(entries: &mut Vec<Entry>, cap: usize) -> Result<(), AllocError>
-    requires { All (λ file. length file.content ≤ cap) (map guest_file entries.old.items) }
+    requires { All (IsFit cap) (map guest_file entries.old.items) }
     ensures files { map guest_file entries.new.items ≡ map guest_file entries.old.items }
     ensures room { OnOk result (All (HasRoom cap) entries.new.items) }
     ensures bytes { OnOk result (All HasBytes (map guest_file entries.old.items)) }

@@ -4,18 +4,17 @@ use Rattle.std.proofs.Math.Seq.{map-set_same}
 use Rattle.std.proofs.lemmas.Grind.{common_steps}
 use Rattle.std.proofs.lemmas.List.{get_or-map, get_or-set_other, get_or-set_same, get_or_default, length-map, take_at}
 use Rattle.std.specs.List.{All}
-use Rattle.machine_state.specs.World.{GuestFile}
 use Rattle.guest_files.specs.Entries.{guest_file}
-use Rattle.guest_files.specs.Files.{no_file}
+use Rattle.guest_files.specs.Files.{IsFit, no_file}
 use Rattle.guest_files.specs.Kept.{HasRoom}
 use Rattle.guest_files.proofs.Keeping.{entry_holds}
 use Rattle.guest_files.proofs.entries.reserve_all.Goals as goal
 
 pub reserve-requires : goal.reserve-requires
 reserve-requires c =
-    let P : GuestFile → Type 0 = λ file. length file.content ≤ c.args.cap in
-    let all : All P (map guest_file c.loop-entry.entry-items) = rw c.loop-entry.invariant.files c.requires in
-    let most = entry_holds P c.loop-entry.entry-items c.loop-entry.entry-index c.entry-item.result all (omega arith) in
+    let fit = IsFit c.args.cap in
+    let all : All fit (map guest_file c.loop-entry.entry-items) = rw c.loop-entry.invariant.files c.requires in
+    let most = (entry_holds fit c.loop-entry.entry-items c.loop-entry.entry-index c.entry-item.result all (omega arith)).most in
     grind (arith, common_steps, most)
 
 pub returns-in_err-reserve-clause-files : goal.returns-in_err-reserve-clause-files
