@@ -1,5 +1,5 @@
 -- Cuts of joined bytes, and what a write at an offset leaves.
-use Rattle.std.proofs.Common.{◌≡◌, ℕ, zero, suc, ◌+◌, ◌-◌, ◌≤◌, ◌<◌, List, [], ◌∷◌, ◌++◌, length, get_or, take, drop, replicate, refl, ap, sym, ◌∙◌, arith, append_assoc, lit<}
+use Rattle.std.proofs.Common.{◌≡◌, ℕ, zero, suc, ◌+◌, ◌-◌, ◌≤◌, ◌<◌, List, [], ◌∷◌, ◌++◌, length, get_or, take, drop, replicate, refl, ap, ◌∙◌, arith, append_assoc, lit<}
 use Rattle.std.proofs.lemmas.List.{append-nil, drop-drop, drop-replicate, get_or_default, length-append, length-drop, length-replicate, length-take, take-replicate}
 use Rattle.std.proofs.lemmas.List.Elements.{All-append, All-drop, All-replicate, All-take}
 use Rattle.machine_state.specs.Memory.{AreBytes}

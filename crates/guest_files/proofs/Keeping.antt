@@ -1,9 +1,8 @@
 -- What entries and places keep: what they stand for, and room.
-use Rattle.std.proofs.Common.{◌≡◌, ◌≢◌, ℕ, ◌≤◌, ◌<◌, ◌⊎◌, zero, suc, inl, inr, true, List, length, get_or, replicate, set, map, Option, Some, None, IfSome, refl, ap, sym, ◌∙◌, subst, arith, lit<}
+use Rattle.std.proofs.Common.{◌≡◌, ◌≢◌, ℕ, ◌<◌, ◌⊎◌, zero, suc, inl, inr, true, List, length, get_or, replicate, set, map, Option, Some, None, IfSome, refl, ap, sym, ◌∙◌, subst, arith, lit<}
 use Rattle.std.proofs.lemmas.List.{get_or-map, get_or-set_other, get_or-set_same, length-map, length-set, map-set}
 use Rattle.std.proofs.lemmas.List.Elements.{All-set}
 use Rattle.std.specs.List.{All}
-use Rattle.std.specs.Vec.{vec_capacity}
 use Rattle.machine_state.specs.World.{GuestFile, IsGuestFile, IsPlace, descriptor_count, first_descriptors, input_place, output_place, place_at}
 use Rattle.machine_state.specs.declared.kinds.Place.{Place}
 use Rattle.guest_files.specs.Entries.{guest_file}

@@ -1,5 +1,5 @@
 -- The first check that fails, where checks stand behind one another.
-use Rattle.std.proofs.Common.{◌≡◌, ℕ, zero, suc, ◌<◌, Bool, true, false, cond, List, [], ◌∷◌, ◌++◌, length, get_or, Option, Some, None, refl, arith}
+use Rattle.std.proofs.Common.{◌≡◌, ℕ, zero, suc, ◌<◌, true, false, cond, List, [], ◌∷◌, ◌++◌, length, get_or, Some, None, refl, arith}
 use Rattle.guest_files.specs.Checks.{Check, first_failing}
 use Rattle.guest_files.specs.declared.errno.Errno.{Errno}
 

@@ -1,8 +1,6 @@
 -- Checks in the order in which a call makes them.
-use Rattle.std.specs.Prelude.{ℕ, Bool, true, false, not, List, [], ◌∷◌, Option, Some, None, Result, Ok, Err, if◌then◌else◌, is_none, nat_le, ◌^◌}
-use Rattle.machine_state.specs.World.{place_at}
+use Rattle.std.specs.Prelude.{ℕ, Bool, false, List, [], ◌∷◌, Option, Some, None, Result, Ok, Err, if◌then◌else◌, is_none}
 use Rattle.machine_state.specs.declared.kinds.Place.{Place}
-use Rattle.guest_files.specs.Errnos.{ebadf, espipe, einval}
 use Rattle.guest_files.specs.declared.errno.Errno.{Errno}
 
 -- a check: whether it fails, and the error that it answers then

@@ -1,5 +1,5 @@
 -- The guest's files and its descriptors.
-use Rattle.std.specs.Prelude.{◌≡◌, ◌≢◌, ℕ, ◌≤◌, ◌<◌, Bool, false, true, List, [], length, slice_index_or, slice_set, All, Option, Some, None, IfSome}
+use Rattle.std.specs.Prelude.{◌≡◌, ◌≢◌, ℕ, ◌≤◌, false, true, List, [], length, slice_index_or, slice_set, All, Option, Some, None, IfSome}
 use Rattle.std.specs.List.{AllPairs}
 use Rattle.machine_state.specs.World.{GuestFile, IsGuestFile, IsPlace, descriptor_count, place_at}
 use Rattle.machine_state.specs.declared.kinds.Place.{Place}

@@ -1,6 +1,6 @@
 -- Reading and writing at an offset, and moving the offset (Linux, pread(2), pwrite(2), lseek(2); the choice of errors is this
 -- program's own).
-use Rattle.std.specs.Prelude.{ℕ, ◌^◌, ◌==◌, ℤ, pos, negsuc, ◌+ℤ◌, Bool, not, ◌&&◌, List, [], ◌∷◌, length, take, Option, Some, None, option_and_then, option_map, if◌then◌else◌, is_none, unwrap_or, slice_set, nat_le, nat_lt}
+use Rattle.std.specs.Prelude.{ℕ, ◌^◌, ◌==◌, ℤ, pos, negsuc, ◌+ℤ◌, not, ◌&&◌, List, [], ◌∷◌, length, take, Option, Some, None, option_and_then, option_map, if◌then◌else◌, is_none, unwrap_or, slice_set, nat_le, nat_lt}
 use Rattle.machine_state.specs.World.{place_at}
 use Rattle.machine_state.specs.declared.kinds.Place.{Place}
 use Rattle.guest_files.specs.Checks.{does_read, does_write, file_number, first_failing, is_stream}

@@ -1,5 +1,5 @@
 -- Opening a file and closing a descriptor (Linux, open(2) and close(2), in part; the choice of errors is this program's own).
-use Rattle.std.specs.Prelude.{ℕ, ◌%◌, ◌==◌, Bool, true, false, not, ◌&&◌, ◌||◌, List, [], ◌∷◌, ◌++◌, Option, Some, None, if◌then◌else◌, is_none, is_some, unwrap_or, slice_set}
+use Rattle.std.specs.Prelude.{ℕ, ◌%◌, ◌==◌, Bool, true, not, ◌&&◌, ◌||◌, List, [], ◌∷◌, ◌++◌, Option, Some, None, if◌then◌else◌, is_none, unwrap_or, slice_set}
 use Rattle.std.specs.Int.RustNames.{bit_and}
 use Rattle.std.specs.List.{position}
 use Rattle.std.specs.Str.{bytes_eq}

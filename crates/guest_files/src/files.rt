@@ -11,8 +11,8 @@ use machine_state::Place;
 use std::alloc::{AllocError, Global};
 use std::marker::Model;
 
-/// How many descriptors a guest has.
-pub const DESCRIPTORS: usize = 64;
+// How many descriptors a guest has.
+const DESCRIPTORS: usize = 64;
 
 const INPUT: Place = Place {
     file: None,
@@ -189,7 +189,7 @@ impl Files {
     }
 
     /// Reads the bytes of a file from an offset on (pread(2)), as many as fit, and answers how many. The descriptor's own
-    /// offset stays.
+    /// offset stays. An offset from 2^63 up counts as a negative one, which is EINVAL.
     pub fn read_at(&self, fd: u32, at: u64, into: &mut [u8]) -> Result<usize, Errno>
         ensures answer { result ≡ answer_of (read_refusal self.now fd at)
             (length (read_piece self.now fd at (length into.old))) }
@@ -212,7 +212,8 @@ impl Files {
     }
 
     /// Writes bytes to a file from an offset on (pwrite(2)), as many as lie below the cap, and answers how many. A gap
-    /// between the file's end and the offset becomes zeros. The descriptor's own offset stays.
+    /// between the file's end and the offset becomes zeros. The descriptor's own offset stays, and it doesn't count whether
+    /// the descriptor appends: the caller gives the end as the offset then.
     pub fn write_at(&mut self, fd: u32, at: u64, bytes: &[u8]) -> Result<usize, Errno>
         ensures answer { result ≡ answer_of (write_refusal self.old fd at (length bytes.now))
             (count_under self.old.cap at (length bytes.now)) }

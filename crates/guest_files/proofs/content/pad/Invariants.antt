@@ -1,4 +1,4 @@
-use Rattle.std.proofs.Common.{◌≡◌, ◌≤◌, ◌+◌, ◌-◌, ◌++◌, replicate, vec_capacity, vec_len, max}
+use Rattle.std.proofs.Common.{◌≡◌, ◌≤◌, ◌-◌, ◌++◌, replicate, vec_capacity, vec_len, max}
 use Rattle.guest_files.proofs.content.pad.Given as goal
 
 abbrev pub invariant-loop : goal.invariant-loop

@@ -1,9 +1,7 @@
 -- The first entry of the name is the first file of it.
-use Rattle.std.proofs.Common.{◌≡◌, ◌<◌, ◌∙◌, below_more, false, true, get_or, length, map, sym, arith}
-use Rattle.std.proofs.lemmas.List.{get_or-map, length-map}
-use Rattle.std.specs.Str.{bytes_eq}
+use Rattle.std.proofs.Common.{◌<◌, ◌∙◌, below_more, false, true, length, map, sym, arith}
+use Rattle.std.proofs.lemmas.List.{length-map}
 use Rattle.guest_files.specs.Entries.{guest_file}
-use Rattle.guest_files.specs.Files.{no_file}
 use Rattle.guest_files.proofs.Names.{entry_named, found, missing}
 use Rattle.guest_files.proofs.entries.number_of.Goals as goal
 

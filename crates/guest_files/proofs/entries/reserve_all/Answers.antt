@@ -1,8 +1,8 @@
 -- Each entry stands for the file that it stood for.
-use Rattle.std.proofs.Common.{◌≡◌, ◌≢◌, ℕ, ◌≤◌, ◌<◌, ◌∙◌, arith, below_more, drop, length, get_or, map, set}
+use Rattle.std.proofs.Common.{◌≡◌, ◌≢◌, ℕ, ◌<◌, ◌∙◌, arith, below_more, drop, length, get_or, map, set}
 use Rattle.std.proofs.Math.Seq.{map-set_same}
 use Rattle.std.proofs.lemmas.Grind.{common_steps}
-use Rattle.std.proofs.lemmas.List.{get_or-map, get_or-set_other, get_or-set_same, get_or_default, length-map, take_at}
+use Rattle.std.proofs.lemmas.List.{get_or-map, get_or-set_other, get_or-set_same, get_or_default, take_at}
 use Rattle.std.specs.List.{All}
 use Rattle.guest_files.specs.Entries.{guest_file}
 use Rattle.guest_files.specs.Files.{IsFit, no_file}

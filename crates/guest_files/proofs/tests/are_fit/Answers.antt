@@ -1,5 +1,5 @@
 -- Each entry is fit, and is found by its name.
-use Rattle.std.proofs.Common.{◌≡◌, ◌<◌, ◌≤◌, Some, true, ap, arith, below_more, get_or, length, map, sym, ◌∙◌}
+use Rattle.std.proofs.Common.{◌≡◌, ◌<◌, Some, true, ap, arith, below_more, get_or, length, map, sym, ◌∙◌}
 use Rattle.std.proofs.lemmas.Grind.{common_steps}
 use Rattle.std.proofs.lemmas.List.{get_or_default, length-map}
 use Rattle.guest_files.specs.Entries.{guest_file}
