@@ -1,0 +1,63 @@
+-- The guest's files and its descriptors.
+use Rattle.std.specs.Prelude.{◌≡◌, ◌≢◌, ℕ, ◌≤◌, false, true, List, [], length, slice_index_or, slice_set, All, Option, Some, None, IfSome}
+use Rattle.std.specs.List.{AllPairs}
+use Rattle.machine_state.specs.World.{GuestFile, IsGuestFile, IsPlace, descriptor_count, place_at}
+use Rattle.machine_state.specs.declared.kinds.Place.{Place}
+
+-- the files, what the descriptors stand for by their numbers, and the most bytes that a file may have
+pub record FilesValue : Type 0 where
+  pub files : List GuestFile
+  pub places : List (Option Place)
+  pub cap : ℕ
+
+-- how many files there may be, and the most bytes of a name (this program's own; Linux, NAME_MAX)
+abbrev pub file_count : ℕ
+file_count = 16
+
+abbrev pub name_max : ℕ
+name_max = 255
+
+-- a file that may be given at the start: its name has 1 to 255 bytes, it is no longer than the cap, and one that doesn't
+-- exist is empty
+pub record IsFit (cap : ℕ) (file : GuestFile) : Type 0 where
+  pub named : 1 ≤ length file.name
+  pub short : length file.name ≤ name_max
+  pub most : length file.content ≤ cap
+  pub absent : file.exists ≡ false → length file.content ≡ 0
+
+-- the files that there may be at the start: at most 16, of different names
+pub record AreEntries (cap : ℕ) (files : List GuestFile) : Type 0 where
+  pub count : length files ≤ file_count
+  pub fit : All (IsFit cap) files
+  pub distinct : AllPairs (λ a b. a.name ≢ b.name) files
+
+-- a file with nothing in it, which stands where a number is no file's
+abbrev pub no_file : GuestFile
+no_file = record { name = []; content = []; exists = false; writable = false }
+
+-- the file that a place is of
+abbrev pub file_of : List GuestFile → Option ℕ → GuestFile
+file_of files None = no_file
+file_of files (Some number) = slice_index_or files number no_file
+
+-- the files with one of them changed
+abbrev pub with_file : List GuestFile → Option ℕ → GuestFile → List GuestFile
+with_file files None file = files
+with_file files (Some number) file = slice_set files number file
+
+-- the file of an open descriptor exists, and may be written where the descriptor writes
+pub record FitsFile (place : Place) (file : GuestFile) : Type 0 where
+  pub exists : file.exists ≡ true
+  pub writable : place.writes ≡ true → file.writable ≡ true
+
+-- a place is of no file, or of one that fits it
+abbrev pub IsOpened : List GuestFile → Place → Type 0
+IsOpened files place = IfSome place.file (λ number. FitsFile place (slice_index_or files number no_file))
+
+-- files and descriptors as they can be
+pub record AreFiles (value : FilesValue) : Type 0 where
+  pub count : length value.files ≤ file_count
+  pub files : All (IsGuestFile value.cap) value.files
+  pub descriptors : length value.places ≡ descriptor_count
+  pub place : (number : ℕ) → IfSome (place_at value.places number) (IsPlace (length value.files) number)
+  pub opened : (number : ℕ) → IfSome (place_at value.places number) (IsOpened value.files)
