@@ -1,5 +1,5 @@
 -- The reading of the words, from left to right.
-use Rattle.std.specs.Prelude.{ℕ, ◌+◌, Bool, true, false, not, nat_lt, nat_eq, if◌then◌else◌, List, [], ◌∷◌, ◌++◌, length, Option, Some, None, is_some, unwrap_or, Result, Ok, Err, ◌==◌}
+use Rattle.std.specs.Prelude.{ℕ, ◌+◌, ◌-◌, ◌^◌, Bool, true, false, not, nat_lt, nat_eq, if◌then◌else◌, List, [], ◌∷◌, ◌++◌, length, Option, Some, None, is_some, unwrap_or, Result, Ok, Err, ◌==◌}
 use Rattle.std.specs.Cmp.Lexicographic.{pointwise}
 use Rattle.command_words.specs.declared.options.OptionName.{OptionName}
 use Rattle.command_words.specs.declared.options.OptionName.TheVariants.{Budget, Pages, Seed, Env, Report}
@@ -54,9 +54,9 @@ option_checks given (Some name) = check 5 (not (is_repeated given name)) ∷ che
 
 -- those of an option's value
 unfoldable pub value_checks : OptionName → List ℕ → List Check
-value_checks Budget value = check 4 (is_number_within 0 18446744073709551615 value) ∷ []
+value_checks Budget value = check 4 (is_number_within 0 (2 ^ 64 - 1) value) ∷ []
 value_checks Pages value = check 4 (is_number_within 512 262144 value) ∷ []
-value_checks Seed value = check 4 (is_number_within 0 18446744073709551615 value) ∷ []
+value_checks Seed value = check 4 (is_number_within 0 (2 ^ 64 - 1) value) ∷ []
 value_checks Env value = check 12 (not (has_zero value)) ∷ []
 value_checks Report value = []
 
