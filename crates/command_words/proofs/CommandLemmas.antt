@@ -76,14 +76,16 @@ option-fits ws given place (Some name) h e =
 path-fits : (ws : List (List ℕ)) (given : Given) (place : ℕ) → place < length ws → Holds ws given place → begins_as_option (word_at ws place) ≡ false
     → first_fault place (path_checks (word_at ws place)) ≡ None → Fits ws given (Guest place) (place + 1)
 path-fits ws given place lt h b e =
-    let both = both-pass (not (has_zero (word_at ws place))) (nat_lt 0 (length (word_at ws place))) _ _ e in
-    (h, record {
-      within = lt;
-      some = ltb-true 0 (length (word_at ws place)) both.1;
-      no_option = b;
-      before = omega arith;
-      texts = λ k low high. (let same : place ≡ k = omega arith in subst (λ (n : ℕ). IsText (word_at ws n)) same (not-true (has_zero (word_at ws place)) both.0));
-    })
+    let both = both-pass (not (has_zero (word_at ws place))) (nat_lt 0 (length (word_at ws place))) _ _ e in (
+      h,
+      record {
+        within = lt;
+        some = ltb-true 0 (length (word_at ws place)) both.1;
+        no_option = b;
+        before = omega arith;
+        texts = λ k low high. (let same : place ≡ k = omega arith in subst (λ (n : ℕ). IsText (word_at ws n)) same (not-true (has_zero (word_at ws place)) both.0));
+      },
+    )
 
 place-fits : (ws : List (List ℕ)) (given : Given) (place : ℕ) (b : Bool) → place < length ws → Holds ws given place
     → begins_as_option (word_at ws place) ≡ b
@@ -141,18 +143,20 @@ unfolding checks taken next_role
 word-fits ws given First place lt f e = holds-later ws given place f
 word-fits ws given Place place lt f e = place-fits ws given place (begins_as_option (word_at ws place)) lt f refl e
 word-fits ws given (Value name) place lt f e = value-fits ws given place name f.0 f.1 e
-word-fits ws given (Guest program) place lt f e =
-    (f.0, record {
-      within = f.1.within;
-      some = f.1.some;
-      no_option = f.1.no_option;
-      before = le_more f.1.before;
-      texts = λ k low high. ⊎_elim
-          (λ less. f.1.texts k low less)
-          (λ more. (let same : place ≡ k = omega arith in
-              subst (λ (n : ℕ). IsText (word_at ws n)) same (not-true (has_zero (word_at ws place)) (passes _ _ e))))
-          (cases_lt k place);
-    })
+word-fits ws given (Guest program) place lt f e = (
+  f.0,
+  record {
+    within = f.1.within;
+    some = f.1.some;
+    no_option = f.1.no_option;
+    before = le_more f.1.before;
+    texts = λ k low high. ⊎_elim
+        (λ less. f.1.texts k low less)
+        (λ more. (let same : place ≡ k = omega arith in
+        subst (λ (n : ℕ). IsText (word_at ws n)) same (not-true (has_zero (word_at ws place)) (passes _ _ e))))
+        (cases_lt k place);
+  },
+)
   where
     le_more : {a b : ℕ} → a < b → a < b + 1
     le_more h = omega arith
@@ -202,8 +206,8 @@ read-is ws zero given role place command l f e =
 read-is ws (suc left) given role place command l f e =
     ⊎_elim
     (λ lt. stepped ws given role place command (first_fault place (checks given role (word_at ws place))) refl lt e
-        (λ none. read-is ws left (taken given role place (word_at ws place)) (next_role role place (word_at ws place)) (place + 1) command (omega arith)
-            (word-fits ws given role place lt f none) (sym (read-on ws given role place lt none) ∙ e)))
+    (λ none. read-is ws left (taken given role place (word_at ws place)) (next_role role place (word_at ws place)) (place + 1) command (omega arith)
+    (word-fits ws given role place lt f none) (sym (read-on ws given role place lt none) ∙ e)))
     (λ end. ended-is ws given role place command end f (sym (read-end ws given role place end) ∙ e))
     (cases_lt place (length ws))
 

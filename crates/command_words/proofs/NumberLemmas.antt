@@ -47,23 +47,23 @@ unfolding is_number
 refuse bs not_one =
     sym (cond-false (is_number bs && nat_lt (number_of bs) (2 ^ 64)) (Some (number_of bs)) None
     (false_from_ne_true _ (λ e.
-        let out = and_parts _ _ e in
-        let number = and_parts _ _ out.0 in
-        let front = and_parts _ _ number.0 in
-        not_one (front.1, ltb-true 0 (length bs) front.0, ltb-true (number_of bs) (2 ^ 64) out.1))))
+    let out = and_parts _ _ e in
+    let number = and_parts _ _ out.0 in
+    let front = and_parts _ _ number.0 in
+    not_one (front.1, ltb-true 0 (length bs) front.0, ltb-true (number_of bs) (2 ^ 64) out.1))))
 
 pub parsed-ok : {E : Type 0} (bs : List ℕ) (r : Result ℕ E) (n : ℕ) → ParsesUnsigned 64 10 bs r → starts_with nat_eq bs (43 ∷ []) ≡ false
     → has_leading_zero bs ≡ false → r ≡ Ok n → Some n ≡ cond (is_number bs && nat_lt (number_of bs) (2 ^ 64)) (Some (number_of bs)) None
 parsed-ok {E} bs r n h p z e =
     let is = subst (λ (r : Result ℕ E). OkIff r ((all_digits bs ≡ true) × (0 < length bs) × (digits_value 10 bs < 2 ^ 64)) (digits_value 10 bs)) e
-        (parse_plain own 64 bs r h (no-plus bs p)) in
+    (parse_plain own 64 bs r h (no-plus bs p)) in
     accept bs n z is.0.0 is.0.1 is.0.2 is.1
 
 pub parsed-err : {E : Type 0} (bs : List ℕ) (r : Result ℕ E) (fault : E) → ParsesUnsigned 64 10 bs r → starts_with nat_eq bs (43 ∷ []) ≡ false
     → r ≡ Err fault → None ≡ cond (is_number bs && nat_lt (number_of bs) (2 ^ 64)) (Some (number_of bs)) None
 parsed-err {E} bs r fault h p e =
     refuse bs (subst (λ (r : Result ℕ E). OkIff r ((all_digits bs ≡ true) × (0 < length bs) × (digits_value 10 bs < 2 ^ 64)) (digits_value 10 bs)) e
-        (parse_plain own 64 bs r h (no-plus bs p)))
+    (parse_plain own 64 bs r h (no-plus bs p)))
 
 -- what isn't a number: a text with a plus in front, or a leading zero
 plus-digit : (bs : List ℕ) → starts_with nat_eq bs (43 ∷ []) ≡ true → all_digits bs ≡ false

@@ -1,4 +1,5 @@
 //! What is read of the words.
+ghost use Rattle.std.specs.Prelude.{◌≡◌, ◌<◌, ◌^◌};
 
 use arrayvec::ArrayVec;
 
@@ -10,6 +11,19 @@ pub struct WordFault {
     /// 1 no command; 2 no option; 3 an option's value is missing; 4 no number, or one out of range; 5 an option comes again;
     /// 6 the program's path is empty; 7 the program is missing; 8 too many environment texts; 12 a text with the byte 0.
     pub kind: u8,
+}
+
+impl WordFault {
+    /// The refusal of the word at a place.
+    pub(crate) fn new(place: usize, kind: u8) -> WordFault
+        requires { place < 2 ^ 32 }
+        ensures { result ≡ record { word = place; kind = kind } }
+    {
+        WordFault {
+            word: place as u32,
+            kind,
+        }
+    }
 }
 
 /// What the words say.

@@ -34,10 +34,7 @@ fn check(passes: bool, kind: u8, place: usize) -> Result<(), WordFault>
     if passes {
         Ok(())
     } else {
-        Err(WordFault {
-            word: place as u32,
-            kind,
-        })
+        Err(WordFault::new(place, kind))
     }
 }
 
@@ -59,10 +56,7 @@ fn number_at(value: &str, least: u64, most: u64, place: usize) -> Result<u64, Wo
 {
     match number_within(value, least, most) {
         Some(number) => Ok(number),
-        None => Err(WordFault {
-            word: place as u32,
-            kind: 4,
-        }),
+        None => Err(WordFault::new(place, 4)),
     }
 }
 
@@ -116,10 +110,7 @@ impl Given {
                 check(self.has_room(name), 8, place)?;
                 Ok(name)
             }
-            None => Err(WordFault {
-                word: place as u32,
-                kind: 2,
-            }),
+            None => Err(WordFault::new(place, 2)),
         }
     }
 
@@ -220,7 +211,7 @@ fn read_option(words: &[String], place: usize, given: Given) -> Result<(Given, u
     requires option { begins_as_option_of (word_at (map string_bytes words.now) place) ≡ true }
     ensures answer { MatchResult result
         (λ read. read_from given Place place (drop place (map string_bytes words.now))
-            ≡ read_from read.0 Place read.1 (drop read.1 (map string_bytes words.now)))
+        ≡ read_from read.0 Place read.1 (drop read.1 (map string_bytes words.now)))
         (λ fault. read_from given Place place (drop place (map string_bytes words.now)) ≡ Err fault) }
     ensures within { IfOk result (λ read. (place < read.1) × (read.1 ≤ length words.now)) }
 {
@@ -239,7 +230,7 @@ fn read_options(words: &[String]) -> Result<(Given, usize), WordFault>
     requires some { 1 ≤ length words.now }
     ensures answer { MatchResult result
         (λ read. read_from no_options Place 1 (drop 1 (map string_bytes words.now))
-            ≡ read_from read.0 Place read.1 (drop read.1 (map string_bytes words.now)))
+        ≡ read_from read.0 Place read.1 (drop read.1 (map string_bytes words.now)))
         (λ fault. read_from no_options Place 1 (drop 1 (map string_bytes words.now)) ≡ Err fault) }
     ensures within { IfOk result (λ read. read.1 ≤ length words.now) }
     ensures behind { IfOk result (λ read. read.1 < length words.now
@@ -262,7 +253,7 @@ fn check_program(words: &[String], place: usize) -> Result<(), WordFault>
     requires behind { place < length words.now → begins_as_option_of (word_at (map string_bytes words.now) place) ≡ false }
     ensures answer { (given : GivenValue) → MatchResult result
         (λ _. read_from given Place place (drop place (map string_bytes words.now))
-            ≡ read_from given (Guest place) (place + 1) (drop (place + 1) (map string_bytes words.now)))
+        ≡ read_from given (Guest place) (place + 1) (drop (place + 1) (map string_bytes words.now)))
         (λ fault. read_from given Place place (drop place (map string_bytes words.now)) ≡ Err fault) }
     ensures some { IfOk result (λ _. place < length words.now) }
 {

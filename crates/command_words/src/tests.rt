@@ -91,7 +91,10 @@ static ACCEPTED: [(Words, Said); 13] = [
     (&["run", "-x"], DEFAULTS),
     (&["run", "-", "--"], DEFAULTS),
     (&["run", "hello", "", "a"], DEFAULTS),
-    (&["run", "hello", "--seed", "07", "--fast", "--seed"], DEFAULTS),
+    (
+        &["run", "hello", "--seed", "07", "--fast", "--seed"],
+        DEFAULTS,
+    ),
     (&["run", "run", "run"], DEFAULTS),
     (
         &["run", "--budget", "0", "hello"],
@@ -105,7 +108,14 @@ static ACCEPTED: [(Words, Said); 13] = [
         },
     ),
     (
-        &["run", "--budget", "18446744073709551615", "--pages", "512", "hello"],
+        &[
+            "run",
+            "--budget",
+            "18446744073709551615",
+            "--pages",
+            "512",
+            "hello",
+        ],
         Said {
             budget: 18_446_744_073_709_551_615,
             pages: 512,
@@ -116,7 +126,14 @@ static ACCEPTED: [(Words, Said); 13] = [
         },
     ),
     (
-        &["run", "--pages", "262144", "--seed", "18446744073709551615", "hello"],
+        &[
+            "run",
+            "--pages",
+            "262144",
+            "--seed",
+            "18446744073709551615",
+            "hello",
+        ],
         Said {
             budget: 1_000_000_000_000,
             pages: 262_144,
@@ -149,7 +166,9 @@ static ACCEPTED: [(Words, Said); 13] = [
         },
     ),
     (
-        &["run", "--env", "", "--report", "--env", "A=1", "--env", "A=1", "./hello"],
+        &[
+            "run", "--env", "", "--report", "--env", "A=1", "--env", "A=1", "./hello",
+        ],
         Said {
             budget: 1_000_000_000_000,
             pages: 16_384,
@@ -160,7 +179,9 @@ static ACCEPTED: [(Words, Said); 13] = [
         },
     ),
     (
-        &["run", "--seed", "3", "--pages", "600", "--budget", "9", "--report", "a", "b"],
+        &[
+            "run", "--seed", "3", "--pages", "600", "--budget", "9", "--report", "a", "b",
+        ],
         Said {
             budget: 9,
             pages: 600,

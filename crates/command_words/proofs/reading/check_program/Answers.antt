@@ -33,8 +33,8 @@ returns-clause-answer c = λ given.
     (read_at given Place c.args.place ws) (read_at given (Guest c.args.place) (c.args.place + 1) ws)
     c.check-2.ensures
     (λ e. path-on ws given c.args.place (omega (arith, within, length-map c.args.words.now string_bytes)) (c.requires.behind within)
-        (ap has_zero (sym c.text_at-path.ensures) ∙ c.in_ok-check_text.ensures) (ap (λ (w : List ℕ). nat_lt 0 (length w)) (sym c.text_at-path.ensures)
-        ∙ lt-ltb 0 _ (is-some (length c.text_at-path.result.now) c.is_empty.result c.is_empty.ensures e)))
+    (ap has_zero (sym c.text_at-path.ensures) ∙ c.in_ok-check_text.ensures) (ap (λ (w : List ℕ). nat_lt 0 (length w)) (sym c.text_at-path.ensures)
+    ∙ lt-ltb 0 _ (is-some (length c.text_at-path.result.now) c.is_empty.result c.is_empty.ensures e)))
     (λ e. path-empty ws given c.args.place (omega (arith, within, length-map c.args.words.now string_bytes)) (c.requires.behind within)
-        (ap has_zero (sym c.text_at-path.ensures) ∙ c.in_ok-check_text.ensures) (ap (λ (w : List ℕ). nat_lt 0 (length w)) (sym c.text_at-path.ensures)
-        ∙ ap (nat_lt 0) (is-none (length c.text_at-path.result.now) c.is_empty.result c.is_empty.ensures e)))
+    (ap has_zero (sym c.text_at-path.ensures) ∙ c.in_ok-check_text.ensures) (ap (λ (w : List ℕ). nat_lt 0 (length w)) (sym c.text_at-path.ensures)
+    ∙ ap (nat_lt 0) (is-none (length c.text_at-path.result.now) c.is_empty.result c.is_empty.ensures e)))
