@@ -1,5 +1,5 @@
 -- What holds of a command that is read.
-use Rattle.std.proofs.Common.{◌≡◌, ◌∙◌, ℕ, zero, suc, ◌+◌, ◌<◌, ◌≤◌, ◌^◌, ◌⊎◌, ⊎_elim, inl, inr, Bool, true, false, not, cond, nat_lt, nat_le, ◌&&◌, List, [], ◌∷◌, ◌++◌, length, get_or, drop, map, All, Option, Some, None, Result, Ok, Err, refl, sym, ap, subst, arith, unwrap_or, length-append}
+use Rattle.std.proofs.Common.{◌≡◌, ◌∙◌, ℕ, zero, suc, ◌+◌, ◌<◌, ◌≤◌, ◌^◌, ⊎_elim, Bool, true, false, not, cond, nat_lt, List, [], ◌∷◌, length, drop, All, Option, Some, None, Ok, refl, sym, subst, arith, unwrap_or, length-append}
 use Rattle.std.specs.Option.{IfSome}
 use Rattle.std.proofs.lemmas.Bool.{and_parts, leb-true, ltb-true, not-true, cases_lt}
 use Rattle.std.proofs.lemmas.List.{length-drop, get_or-drop}
@@ -9,11 +9,11 @@ use Rattle.command_words.specs.declared.options.OptionName.TheVariants.{Budget, 
 use Rattle.command_words.specs.declared.kinds.Given.{Given}
 use Rattle.command_words.specs.declared.kinds.Command.{Command}
 use Rattle.command_words.specs.declared.kinds.WordFault.{WordFault}
-use Rattle.command_words.specs.Texts.{word_at, has_zero, begins_as_option, is_number, number_of, is_number_within}
+use Rattle.command_words.specs.Texts.{word_at, has_zero, begins_as_option, number_of, is_number_within}
 use Rattle.command_words.specs.Options.{takes_value, option_named}
-use Rattle.command_words.specs.Reading.{Role, first_fault, no_options, is_repeated, has_room, option_checks, value_checks, path_checks, checks, role_behind, next_role, with_option, with_value, taken, command_of, ended, read_from, words_read}
+use Rattle.command_words.specs.Reading.{Role, first_fault, no_options, is_repeated, has_room, option_checks, value_checks, path_checks, checks, role_behind, next_role, with_option, with_value, taken, command_of, ended, words_read}
 use Rattle.command_words.specs.Reading.Role.{First, Place, Value, Guest}
-use Rattle.command_words.specs.Command.{arguments, environment, IsText, IsCommand}
+use Rattle.command_words.specs.Command.{IsText, IsCommand}
 use Rattle.command_words.proofs.ReadLemmas.{read_at, read-on, read-stop, read-end}
 
 -- what was given by the words before a place

@@ -1,5 +1,5 @@
 -- The reading, word by word.
-use Rattle.std.proofs.Common.{◌≡◌, ℕ, zero, suc, ◌+◌, ◌<◌, ◌≤◌, Bool, true, false, not, cond, nat_lt, List, [], ◌∷◌, length, get_or, drop, Option, Some, None, Result, Ok, Err, refl, sym, ◌∙◌, ap, arith, MatchResult, ◌==◌}
+use Rattle.std.proofs.Common.{◌≡◌, ℕ, zero, suc, ◌+◌, ◌<◌, ◌≤◌, Bool, true, false, not, cond, nat_lt, List, [], ◌∷◌, length, drop, Option, Some, None, Result, Ok, Err, refl, sym, ◌∙◌, ap, arith, MatchResult, ◌==◌}
 use Rattle.std.proofs.lemmas.Bool.{true≢false, not-true, not-false, eqb-true}
 use Rattle.std.proofs.lemmas.List.{at_drop_more, at_drop_all}
 use Rattle.command_words.specs.declared.options.OptionName.{OptionName}
@@ -9,7 +9,7 @@ use Rattle.command_words.specs.declared.kinds.Command.{Command}
 use Rattle.command_words.specs.declared.kinds.WordFault.{WordFault}
 use Rattle.command_words.specs.Texts.{word_at, has_zero, begins_as_option}
 use Rattle.command_words.specs.Options.{takes_value, option_named}
-use Rattle.command_words.specs.Reading.{Role, Check, first_fault, no_options, is_run, option_checks, value_checks, path_checks, checks, role_behind, next_role, with_option, with_value, taken, command_of, ended, fault_or, read_from, words_read}
+use Rattle.command_words.specs.Reading.{Role, first_fault, no_options, is_run, option_checks, value_checks, checks, role_behind, next_role, with_option, with_value, taken, command_of, ended, fault_or, read_from, words_read}
 use Rattle.command_words.specs.Reading.Role.{First, Place, Value, Guest}
 
 abbrev pub read_at : Given → Role → ℕ → List (List ℕ) → Result Command WordFault

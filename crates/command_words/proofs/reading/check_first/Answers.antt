@@ -1,12 +1,7 @@
-use Rattle.std.proofs.Common.{◌≡◌, ◌∙◌, ℕ, ◌+◌, List, length, map, string_bytes, sym, ap, subst, arith, Option, Some, None, not, Bool, true, false, nat_lt, refl}
+use Rattle.std.proofs.Common.{◌∙◌, length, map, string_bytes, sym, ap, arith}
 use Rattle.std.proofs.lemmas.Result.{err_from_is_err_and}
 use Rattle.std.proofs.lemmas.List.{length-map}
-use Rattle.std.proofs.lemmas.Bool.{ltb-true, ltb-false, not-true, not-false}
-use Rattle.command_words.specs.declared.kinds.Given.{Given}
-use Rattle.command_words.specs.Texts.{word_at, begins_as_option, has_zero}
-use Rattle.command_words.specs.Options.{option_named}
-use Rattle.command_words.specs.Reading.{first_fault, option_checks, value_checks, with_value}
-use Rattle.command_words.specs.Reading.Role.{Place, Guest, Value}
+use Rattle.command_words.specs.Reading.Role.{Place}
 use Rattle.command_words.specs.Reading.{is_run, words_read, no_options}
 use Rattle.command_words.proofs.ReadLemmas.{read_at, checked, is-some, is-none, first-missing, first-wrong, first-run}
 use Rattle.command_words.proofs.reading.check_first.Goals as goal

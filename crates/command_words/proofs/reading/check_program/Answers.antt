@@ -1,12 +1,9 @@
-use Rattle.std.proofs.Common.{◌≡◌, ◌∙◌, ℕ, ◌+◌, List, length, map, string_bytes, sym, ap, subst, arith, Option, Some, None, not, Bool, true, false, nat_lt, refl}
+use Rattle.std.proofs.Common.{◌∙◌, ℕ, ◌+◌, List, length, map, string_bytes, sym, ap, arith, not, nat_lt}
 use Rattle.std.proofs.lemmas.Result.{err_from_is_err_and}
 use Rattle.std.proofs.lemmas.List.{length-map}
-use Rattle.std.proofs.lemmas.Bool.{lt-ltb, ltb-true, ltb-false, not-true, not-false}
-use Rattle.command_words.specs.declared.kinds.Given.{Given}
-use Rattle.command_words.specs.Texts.{word_at, begins_as_option, has_zero}
-use Rattle.command_words.specs.Options.{option_named}
-use Rattle.command_words.specs.Reading.{first_fault, option_checks, value_checks, with_value}
-use Rattle.command_words.specs.Reading.Role.{Place, Guest, Value}
+use Rattle.std.proofs.lemmas.Bool.{lt-ltb, ltb-true, ltb-false}
+use Rattle.command_words.specs.Texts.{has_zero}
+use Rattle.command_words.specs.Reading.Role.{Place, Guest}
 use Rattle.command_words.proofs.ReadLemmas.{is-some, is-none, read_at, checked, path-missing, path-zero, path-empty, path-on}
 use Rattle.command_words.proofs.reading.check_program.Goals as goal
 

@@ -1,4 +1,4 @@
-use Rattle.std.proofs.Common.{◌≡◌, ◌∙◌, map, string_bytes, ap, sym, Ok, Result}
+use Rattle.std.proofs.Common.{◌∙◌, map, string_bytes, ap, sym, Ok, Result}
 use Rattle.command_words.specs.declared.kinds.Command.{Command}
 use Rattle.command_words.specs.declared.kinds.WordFault.{WordFault}
 use Rattle.command_words.proofs.CommandLemmas.{words-are}

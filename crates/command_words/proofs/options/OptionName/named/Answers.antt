@@ -1,4 +1,4 @@
-use Rattle.std.proofs.Common.{◌≡◌, ◌∙◌, sym, ap, get_or, nat_eq, List, ℕ, arith}
+use Rattle.std.proofs.Common.{◌∙◌, sym, ap, nat_eq, List, ℕ, arith}
 use Rattle.std.specs.Cmp.Lexicographic.{pointwise}
 use Rattle.command_words.specs.declared.options.OptionName.TheVariants.{Budget}
 use Rattle.command_words.specs.Options.{every_option}
