@@ -1,11 +1,11 @@
 -- Pages and regions that fit still do after a change of a range.
-use Rattle.std.proofs.Common.{◌≡◌, ℕ, ◌≤◌, Bool, true, false, cond, ◌||◌, List, length, Option, Some, None, is_some, refl, sym, ◌∙◌, ap, arith}
+use Rattle.std.proofs.Common.{◌≡◌, ℕ, ◌≤◌, Bool, true, false, cond, ◌||◌, List, length, Option, Some, None, is_some, refl, subst, sym, ◌∙◌, ap, arith}
 use Rattle.std.specs.Option.{option_map}
 use Rattle.machine_state.specs.declared.kinds.Region.{Region}
 use Rattle.machine_state.specs.Regions.{Nature, nature_at, perms_of, page_sum, most_regions, FitRegions}
-use Rattle.guest_pages.specs.Table.{Mapped, perms_in}
+use Rattle.guest_pages.specs.Table.{Mapped, Table, perms_in}
 use Rattle.guest_pages.specs.Pages.{PagesValue, table_of}
-use Rattle.guest_pages.specs.Changes.{with_perms}
+use Rattle.guest_pages.specs.Changes.{KeepsTable, with_perms}
 use Rattle.region_map.specs.declared.kinds.Change.{Change}
 use Rattle.region_map.specs.declared.kinds.Change.TheVariants.{Map, Unmap, Protect}
 use Rattle.region_map.specs.Ranges.{page_end, is_in, becomes, with_nature_perms, IsAfter}
@@ -65,3 +65,10 @@ fit_after change from to before after old new fit is most a tallied =
     here : (page : ℕ) (b : Bool) → is_in from to page ≡ b → perms_of (cond b (becomes change (nature_at old page)) (nature_at old page)) ≡ perms_in (table_of after) page
     here page true e = perms_then change (nature_at old page) before after page (fit.perms.perms_are page) (a.inside page e)
     here page false e = fit.perms.perms_are page ∙ sym (ap (λ (o : Option Mapped). option_map (λ m. m.perms) o) (a.outside page e).table)
+
+-- accesses keep what fits
+pub fit_kept : (old new : PagesValue) (xs : List Region) → KeepsTable old new → FitPages old xs → FitPages new xs
+fit_kept old new xs keeps fit = record {
+  perms = subst (λ (t : Table). FitRegions (perms_in t) xs) (sym keeps.table) fit.perms;
+  count = keeps.count ∙ fit.count;
+}

@@ -1,12 +1,11 @@
 -- Regions are told by what the pages are.
 use Rattle.machine_state.specs.declared.kinds.Region.{Region}
-use Rattle.machine_state.specs.declared.permissions.Perms.{Perms}
-use Rattle.machine_state.specs.Regions.{AreRegions, ComesBefore, Nature, end_of, has_page, nature_at, nature_of}
-use Rattle.region_map.proofs.Ascents.{Ascend, regions_ascend}
-use Rattle.region_map.proofs.Natures.{in_above, in_below, in_true}
+use Rattle.machine_state.specs.Regions.{AreRegions, Nature, end_of, nature_at, nature_of}
+use Rattle.region_map.proofs.Ascents.{regions_ascend}
+use Rattle.region_map.proofs.Natures.{in_above, in_true}
 use Rattle.region_map.proofs.Tallies.{low_none}
 use Rattle.region_map.specs.Calls.{is_mapped}
-use Rattle.std.proofs.Common.{◌+◌, ◌<◌, List, None, Option, Some, [], ap, arith, cond, false, is_some, refl, sym, true, ℕ, ⊎_elim, ◌∙◌, ◌∷◌, ◌≡◌, ◌≢◌, ◌≤◌}
+use Rattle.std.proofs.Common.{◌<◌, List, None, Option, Some, [], ap, arith, false, is_some, refl, sym, ℕ, ⊎_elim, ◌∙◌, ◌∷◌, ◌≡◌, ◌≢◌, ◌≤◌}
 use Rattle.std.proofs.lemmas.Bool.{cases_eq, cases_lt}
 
 -- a page that isn't mapped has no nature

@@ -271,10 +271,14 @@ impl Plain {
 
     // The highest of the ranges of free pages that end by a page.
     fn free_below(&self, end: u64, count: u64) -> Option<u64> {
-        (16..HIGHEST_END.min(end).saturating_sub(count).wrapping_add(1))
-            .rev()
-            .take(200)
-            .find(|first| self.fresh(*first, first.wrapping_add(count)) as u64 == count)
+        let last = HIGHEST_END.min(end).saturating_sub(count);
+        for back in 0..200u64 {
+            let first = last.saturating_sub(back);
+            if first >= 16 && self.fresh(first, first.wrapping_add(count)) as u64 == count {
+                return Some(first);
+            }
+        }
+        None
     }
 }
 
@@ -356,10 +360,21 @@ fn expect_free_at(rt: &impl Abort, regions: &Regions, cases: &[(u64, u64, Option
     }
 }
 
-fn expect_byte(rt: &impl Abort, pages: &Pages, addr: u64, want: Result<u8, Miss>) {
-    let mut byte = [0u8; 1];
-    let read = pages.read(addr, &mut byte, Kind::Read);
-    assert_eq!(rt; read.map(|()| byte[0]), want, "at {addr:#x}");
+fn expect_bytes(rt: &impl Abort, pages: &Pages, cases: &[(u64, Result<u8, Miss>)]) {
+    for (addr, want) in cases {
+        let mut byte = [0u8; 1];
+        let read = pages.read(*addr, &mut byte, Kind::Read);
+        assert_eq!(rt; read.map(|()| byte[0]), *want, "at {addr:#x}");
+    }
+}
+
+// Writes bytes at the ends of pages.
+fn write_bytes(regions: &Regions, pages: &mut Pages) -> Result<(), Miss>
+    requires { FitPages pages.old regions.now.regions }
+    ensures { FitPages pages.new regions.now.regions }
+{
+    pages.write(0x10FFF, &[7, 8])?;
+    pages.write(0x12000, &[9])
 }
 
 // So many drawn calls, on regions and on a plain list.
@@ -506,8 +521,6 @@ fn the_break_moves_by_whole_pages(rt: HostRuntime) -> Result<(), Fail> {
     );
     expect_regions(&rt, &regions, &[(33, 2, 3, false), (50, 8, 1, false)]);
     assert_eq!(rt; regions.break_at(), 0x22FFF);
-    assert_eq!(rt; set_break(&mut regions, &mut pages, 0x20000), Answer::Done);
-    expect_regions(&rt, &regions, &[(50, 8, 1, false)]);
     assert_eq!(rt; regions.heap_start(), 0x20000);
     Ok(())
 }
@@ -540,28 +553,34 @@ fn a_break_can_lie_anywhere(rt: HostRuntime) -> Result<(), Fail> {
 fn mapped_pages_are_zeros(rt: HostRuntime) -> Result<(), Fail> {
     let mut pages = Pages::new(rt.alloc(), 8, 16)?;
     let mut regions = Regions::new(0x20000, 0x20000);
-    assert_eq!(rt;
-        map(&mut regions, &mut pages, 16, 3, 3, false),
-        Answer::Done
+    expect_answers(
+        &rt,
+        &mut regions,
+        &mut pages,
+        &[(Step::Map(16, 3, 3, false), Answer::Done)],
     );
-    assert_eq!(rt; pages.write(0x10FFF, &[7, 8]), Ok(()));
-    assert_eq!(rt; pages.write(0x12000, &[9]), Ok(()));
-    assert_eq!(rt; map(&mut regions, &mut pages, 17, 1, 3, true), Answer::Done);
-    expect_byte(&rt, &pages, 0x10FFF, Ok(7));
-    expect_byte(&rt, &pages, 0x11000, Ok(0));
-    expect_byte(&rt, &pages, 0x12000, Ok(9));
-    assert_eq!(rt; regions.origin(0x11FFF), Some(true));
-    assert_eq!(rt; regions.origin(0x12000), Some(false));
-    assert_eq!(rt; protect(&mut regions, &mut pages, 16, 3, 1), Answer::Done);
-    expect_byte(&rt, &pages, 0x10FFF, Ok(7));
-    assert_eq!(rt; unmap(&mut regions, &mut pages, 16, 1), Answer::Done);
-    expect_byte(&rt, &pages, 0x10FFF, Err(Miss::Unmapped(0x10FFF)));
-    assert_eq!(rt;
-        map(&mut regions, &mut pages, 16, 1, 3, false),
-        Answer::Done
+    assert_eq!(rt; write_bytes(&regions, &mut pages), Ok(()));
+    expect_answers(
+        &rt,
+        &mut regions,
+        &mut pages,
+        &[
+            (Step::Map(17, 1, 3, true), Answer::Done),
+            (Step::Protect(16, 3, 1), Answer::Done),
+            (Step::Unmap(18, 1), Answer::Done),
+            (Step::Map(18, 1, 1, false), Answer::Done),
+        ],
     );
-    expect_byte(&rt, &pages, 0x10FFF, Ok(0));
-    assert_eq!(rt; regions.origin(0x13000), None);
+    expect_bytes(
+        &rt,
+        &pages,
+        &[
+            (0x10FFF, Ok(7)),
+            (0x11000, Ok(0)),
+            (0x12000, Ok(0)),
+            (0x13000, Err(Miss::Unmapped(0x13000))),
+        ],
+    );
     Ok(())
 }
 
