@@ -18,19 +18,9 @@ pub(crate) enum Masked {
     Zeroing(u8),
 }
 
-/// The text, class with prefix, map, opcode and ModRM, W, length, immediate, mask, whether one element of memory is for all lanes,
+/// Class with prefix, map, opcode and ModRM, W, length, immediate, mask, whether one element of memory is for all lanes,
 /// whether ModRM.r/m has the counts of shifts, and the words that the destination has afterwards.
-pub(crate) type Case = (
-    &'static str,
-    Opcode,
-    bool,
-    u8,
-    u64,
-    Masked,
-    bool,
-    bool,
-    [u64; 8],
-);
+pub(crate) type Case = (Opcode, bool, u8, u64, Masked, bool, bool, [u64; 8]);
 
 const MASKS: [u64; 8] = [
     0x5555_5555_5555_5555,
@@ -100,7 +90,7 @@ fn places(opcode: Opcode) -> Places {
 }
 
 fn fields_of(case: &Case) -> Fields {
-    let (_, opcode, w, l, imm, masked, bc, _, _) = *case;
+    let (opcode, w, l, imm, masked, bc, _, _) = *case;
     let (aaa, z) = match masked {
         Masked::All => (0, false),
         Masked::Merging(k) => (k, false),
@@ -156,7 +146,7 @@ fn destination(s: &Seat, row: &Row, p: &Places) -> Vec64 {
 
 /// Whether an instruction of the table of rows leaves the words.
 fn is_a_processors(s: &mut Seat, case: &Case) -> bool {
-    let (_, opcode, _, _, _, _, _, counts, want) = *case;
+    let (opcode, _, _, _, _, _, counts, want) = *case;
     let places = places(opcode);
     let fields = fields_of(case);
     let ready = fill(s, places.rm, counts);
@@ -175,8 +165,8 @@ pub(crate) fn assert_processors(
     cases: &[Case],
 ) -> Result<(), Fail> {
     let mut s = make_seat(rt, alloc)?;
-    for case in cases {
-        assert!(rt; is_a_processors(&mut s, case), "{}", case.0);
+    for (index, case) in cases.iter().enumerate() {
+        assert!(rt; is_a_processors(&mut s, case), "at row {index}");
     }
     Ok(())
 }
