@@ -10,7 +10,10 @@ pub(crate) fn has_two_sources(layout: &Layout) -> bool
     ensures { result ≡ has_two_sources_by layout.now }
 {
     matches!(layout.first.spot, Spot::VectorVvvv)
-        || !matches!(layout.third.spot, Spot::Absent | Spot::Immediate | Spot::Xmm0)
+        || !matches!(
+            layout.third.spot,
+            Spot::Absent | Spot::Immediate | Spot::Xmm0
+        )
 }
 
 /// The destination and the two sources.

@@ -8,7 +8,9 @@ ghost use Rattle.vec_step.specs.Fits.{PlanFits, SpanFits, LanesFit, SourceFits, 
 use crate::kinds::{Places, Source, Span, Target, VectorPlan};
 use crate::places::{general, has_two_sources, opmask, spots, vector};
 use gpr_flags::low;
-use row_table::{Fields, Layout, MaskKind, Op, Row, Spot, VectorOp, element_bytes, layout, tuple_bytes};
+use row_table::{
+    Fields, Layout, MaskKind, Op, Row, Spot, VectorOp, element_bytes, layout, tuple_bytes,
+};
 use vec_file::VecFile;
 use vec_units::{Form, chooses, fed, form_for, is_expanded, memory_width, packed, signs, taken};
 
@@ -145,14 +147,7 @@ fn sign_register(layout: &Layout, f: &Form, p: &Places) -> u8
 }
 
 /// The mask.
-fn mask_in(
-    layout: &Layout,
-    row: &Row,
-    fields: &Fields,
-    f: &Form,
-    p: &Places,
-    vec: &VecFile,
-) -> u64
+fn mask_in(layout: &Layout, row: &Row, fields: &Fields, f: &Form, p: &Places, vec: &VecFile) -> u64
     requires { FormFits f.now }
     ensures { result ≡ mask_in_state layout.now row.now fields.now f.now p.now vec.now }
 {

@@ -1,11 +1,11 @@
-//! Vector instructions by what counts of their rows and fields, and whether they leave what a processor does.
+//! Vector instructions by what counts of their bytes, and whether they leave what a processor does.
 ghost use Rattle.std.specs.Prelude.{◌<◌};
 
-use super::fixture::{PAGE, Seat, fields, make_seat, row, step};
+use super::fixture::{Opcode, PAGE, Seat, entry, fields, make_seat, step};
 use crate::Places;
 use machine_state::Kind;
 use num_lanes::Vec64;
-use row_table::{Class, Fields, LaneOp, MaskKind, Op, Operands, Row, Tuple};
+use row_table::{Class, Fields, Row, Spot, layout};
 use std::alloc::Global;
 use std::process::Abort;
 use std::test::Fail;
@@ -18,30 +18,9 @@ pub(crate) enum Masked {
     Zeroing(u8),
 }
 
-/// Where ModRM.r/m is: in a register, in memory, or an element of memory for all lanes, of 4 or of 8 bytes.
-#[derive(Clone, Copy)]
-pub(crate) enum Place {
-    Registers,
-    Memory,
-    Spread4,
-    Spread8,
-}
-
-/// Class, operation, operands, width of lanes in bits, tuple, length, immediate, mask, where ModRM.r/m is, whether it has the counts
-/// of shifts, and the words that the destination has afterwards.
-pub(crate) type Case = (
-    Class,
-    LaneOp,
-    Operands,
-    u8,
-    Tuple,
-    u8,
-    u64,
-    Masked,
-    Place,
-    bool,
-    [u64; 8],
-);
+/// Class with prefix, map, opcode and ModRM, W, length, immediate, mask, whether one element of memory is for all lanes,
+/// whether ModRM.r/m has the counts of shifts, and the words that the destination has afterwards.
+pub(crate) type Case = (Opcode, bool, u8, u64, Masked, bool, bool, [u64; 8]);
 
 const MASKS: [u64; 8] = [
     0x5555_5555_5555_5555,
@@ -49,12 +28,14 @@ const MASKS: [u64; 8] = [
     u64::MAX,
     4,
     0xA5C3_F00F_5A3C_9669,
-    0,
+    0x0FF0_5AA5_C396_871E,
     0,
     0,
 ];
 /// The memory operand, as the vectors count.
 const MEMORY: u64 = 35;
+/// General register 0, as the vectors count.
+const GENERAL: u64 = 40;
 
 const OPERAND: u64 = PAGE + 64;
 
@@ -97,66 +78,34 @@ fn vector(n: u64, counts: bool) -> Vec64
 }
 
 /// The registers in ModRM and vvvv, of which EVEX has those above 15.
-fn places(case: &Case) -> Places {
-    let (class, _, operands, _, _, _, _, _, place, _, _) = *case;
+fn places(opcode: Opcode) -> Places {
+    let (class, _, _, _, modrm) = opcode;
     let evex = matches!(class, Class::Evex);
-    let is_mask = matches!(operands, Operands::KxHxWx | Operands::KxHxWxIb);
     Places {
-        reg: if is_mask {
-            5
-        } else if evex {
-            17
-        } else {
-            1
-        },
+        reg: if evex { 17 } else { 1 },
         vvvv: if evex { 26 } else { 2 },
         rm: if evex { 29 } else { 5 },
-        memory: if matches!(place, Place::Registers) {
-            None
-        } else {
-            Some(OPERAND)
-        },
-    }
-}
-
-fn mask_kind(class: Class, op: LaneOp, operands: Operands) -> MaskKind {
-    match (class, op, operands) {
-        (_, LaneOp::Vpmaskmov | LaneOp::Vmaskmov, Operands::VxHxMx) => MaskKind::SignsZero,
-        (_, LaneOp::Vpmaskmov | LaneOp::Vmaskmov, _) => MaskKind::Signs,
-        (Class::Evex, _, Operands::KxHxWx | Operands::KxHxWxIb) => MaskKind::ToMask,
-        (Class::Evex, _, _) => MaskKind::MergeZero,
-        _ => MaskKind::NoMask,
-    }
-}
-
-fn row_of(case: &Case) -> Row {
-    let (class, op, operands, width, tuple, _, _, _, _, _, _) = *case;
-    Row {
-        tuple,
-        whole: matches!(tuple, Tuple::Mem128),
-        mask: mask_kind(class, op, operands),
-        ..row(class, Op::Lane(op), width, operands)
+        memory: if modrm < 0xC0 { Some(OPERAND) } else { None },
     }
 }
 
 fn fields_of(case: &Case) -> Fields {
-    let (class, _, _, _, _, l, imm, masked, place, _, _) = *case;
+    let (opcode, w, l, imm, masked, bc, _, _) = *case;
     let (aaa, z) = match masked {
         Masked::All => (0, false),
         Masked::Merging(k) => (k, false),
         Masked::Zeroing(k) => (k, true),
     };
     Fields {
-        class,
-        w: matches!(place, Place::Spread8),
-        bc: matches!(place, Place::Spread4 | Place::Spread8),
+        w,
+        bc,
         aaa,
         z,
-        ..fields(l, imm)
+        ..fields(opcode, l, imm)
     }
 }
 
-/// Puts the vectors that the table starts from into registers and memory; false where the memory isn't there.
+/// Puts the numbers that the table starts from into registers and memory; false where the memory isn't there.
 fn fill(s: &mut Seat, rm: u8, counts: bool) -> bool {
     for n in 0..32 {
         s.vec.set_zmm(n, &vector(u64::from(n), counts && n == rm));
@@ -164,34 +113,50 @@ fn fill(s: &mut Seat, rm: u8, counts: bool) -> bool {
     for n in 0..8 {
         s.vec.set_k(n, MASKS[usize::from(n)]);
     }
+    for n in 0..16 {
+        s.gprs.set(n, word(GENERAL + u64::from(n), 7));
+    }
     s.pages.write(OPERAND, &vector(MEMORY, counts)).is_ok()
 }
 
-/// The destination.
-fn destination(s: &Seat, operands: Operands, p: &Places) -> Vec64 {
+/// A number and zeros.
+fn padded(number: u64) -> Vec64 {
+    joined(&[number, 0, 0, 0, 0, 0, 0, 0])
+}
+
+/// What stands at the operand in memory.
+fn operand(s: &Seat) -> Vec64 {
     let mut bytes = [0; 64];
-    match operands {
-        Operands::KxHxWx | Operands::KxHxWxIb => {
-            bytes[..8].copy_from_slice(&s.vec.k(5).to_le_bytes());
-            bytes
-        }
-        Operands::HxWxIb | Operands::HxUxIb => *s.vec.zmm(p.vvvv % 32),
-        Operands::WxVx | Operands::MxVx | Operands::MxHxVx if p.memory.is_some() => {
-            let _there = s.pages.read(OPERAND, &mut bytes, Kind::Read);
-            bytes
-        }
-        Operands::WxVx | Operands::UxHxVx | Operands::UxIb => *s.vec.zmm(p.rm % 32),
-        _ => *s.vec.zmm(p.reg % 32),
+    let _there = s.pages.read(OPERAND, &mut bytes, Kind::Read);
+    bytes
+}
+
+/// The destination.
+fn destination(s: &Seat, row: &Row, p: &Places) -> Vec64 {
+    match layout(row.operands).first.spot {
+        Spot::OpmaskReg => padded(s.vec.k(p.reg % 8)),
+        Spot::Reg => padded(s.gprs.get(p.reg % 16)),
+        Spot::VectorReg => *s.vec.zmm(p.reg % 32),
+        Spot::VectorVvvv => *s.vec.zmm(p.vvvv % 32),
+        Spot::Rm if p.memory.is_none() => padded(s.gprs.get(p.rm % 16)),
+        Spot::VectorRm if p.memory.is_none() => *s.vec.zmm(p.rm % 32),
+        _ => operand(s),
     }
 }
 
-/// Whether an instruction leaves the words of the table.
+/// Whether an instruction of the table of rows leaves the words.
 fn is_a_processors(s: &mut Seat, case: &Case) -> bool {
-    let (_, _, operands, _, _, _, _, _, _, counts, want) = *case;
-    let places = places(case);
+    let (opcode, _, _, _, _, _, counts, want) = *case;
+    let places = places(opcode);
+    let fields = fields_of(case);
     let ready = fill(s, places.rm, counts);
-    let stepped = step(s, &row_of(case), &fields_of(case), &places);
-    ready && stepped == Some(Ok(())) && destination(s, operands, &places) == joined(&want)
+    let stepped = step(s, &fields, &places);
+    match entry(&fields) {
+        None => false,
+        Some(row) => {
+            ready && stepped == Some(Ok(())) && destination(s, &row, &places) == joined(&want)
+        }
+    }
 }
 
 pub(crate) fn assert_processors(

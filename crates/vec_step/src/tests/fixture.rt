@@ -1,5 +1,6 @@
-//! Registers and pages, and rows and fields of vector instructions.
-ghost use Rattle.std.specs.Prelude.{IsTrue};
+//! Registers and pages, and fields of vector instructions.
+ghost use Rattle.std.specs.Prelude.{◌≡◌, IsTrue};
+ghost use Rattle.gpr_flags.specs.Registers.{is_size as is_size_of};
 ghost use Rattle.vec_units.specs.Form.{IsVectorRow};
 
 use crate::{Places, perform, plan, walk};
@@ -7,11 +8,12 @@ use gpr_flags::{Flags, Gprs};
 use guest_pages::{Pages, Perms};
 use machine_state::{Kind, Miss, Stop};
 use num_lanes::Vec64;
-use row_table::{Align, Class, Fields, LaneOp, Level, MaskKind, Op, Operands, Prefix, Row, Tuple};
+use row_table::{Class, Fields, Op, Row, find, row};
 use std::alloc::Global;
 use std::process::Abort;
 use std::test::Fail;
 use vec_file::VecFile;
+use vec_units::memory_width;
 
 /// The first page, which can be read and written.
 pub(crate) const PAGE: u64 = 0x10_0000;
@@ -54,55 +56,27 @@ pub(crate) fn make_seat(rt: &impl Abort, alloc: Global) -> Result<Seat, Fail> {
     })
 }
 
-/// A row of an operation on lanes of `width` bits, whose destination EVEX masks.
-pub(crate) fn row(class: Class, op: Op, width: u8, operands: Operands) -> Row {
-    Row {
-        class,
-        map: 1,
-        prefix: Prefix::P66,
-        opcode: 0,
-        digit: None,
-        w: None,
-        lengths: 7,
-        operands,
-        width,
-        tuple: Tuple::NoTuple,
-        mask: if matches!(class, Class::Evex) {
-            MaskKind::MergeZero
-        } else {
-            MaskKind::NoMask
-        },
-        whole: false,
-        align: Align::Free,
-        level: Level::V2,
-        op,
+/// Class, mandatory prefix as the field pp numbers it, map, opcode and ModRM byte.
+pub(crate) type Opcode = (Class, u8, u8, u8, u8);
+
+/// The last of F2 and F3 that a legacy instruction's prefix is, or 0.
+fn repeat(class: Class, pp: u8) -> u8 {
+    match (class, pp) {
+        (Class::Legacy, 2) => 0xF3,
+        (Class::Legacy, 3) => 0xF2,
+        _ => 0,
     }
 }
 
-/// The same of one element.
-pub(crate) fn scalar(class: Class, op: LaneOp, width: u8, operands: Operands) -> Row {
-    Row {
-        tuple: Tuple::T1S,
-        ..row(class, Op::Lane(op), width, operands)
-    }
-}
-
-/// A shift by a vector, of which 16 bytes are read whole.
-pub(crate) fn shift(class: Class, op: LaneOp) -> Row {
-    Row {
-        tuple: Tuple::Mem128,
-        whole: true,
-        ..row(class, Op::Lane(op), 32, Operands::VxHxWdq)
-    }
-}
-
-pub(crate) fn fields(l: u8, imm: u64) -> Fields {
+/// Fields with W 0 and no mask.
+pub(crate) fn fields(opcode: Opcode, l: u8, imm: u64) -> Fields {
+    let (class, pp, map, opcode, modrm) = opcode;
     Fields {
-        class: Class::Vex,
+        class,
         segment: 0,
         lock: false,
-        rep: 0,
-        p66: false,
+        rep: repeat(class, pp),
+        p66: matches!(class, Class::Legacy) && pp == 1,
         p67: false,
         rex: false,
         w: false,
@@ -111,10 +85,10 @@ pub(crate) fn fields(l: u8, imm: u64) -> Fields {
         b: 0,
         v: 0,
         l,
-        pp: 1,
-        map: 1,
-        opcode: 0,
-        modrm: None,
+        pp,
+        map,
+        opcode,
+        modrm: Some(modrm),
         sib: None,
         disp: 0,
         disp_len: 0,
@@ -127,11 +101,11 @@ pub(crate) fn fields(l: u8, imm: u64) -> Fields {
 }
 
 /// Those of vectors of 512 bits, with opmask 1.
-pub(crate) fn masked(zeroing: bool) -> Fields {
+pub(crate) fn masked(opcode: Opcode, w: bool) -> Fields {
     Fields {
-        z: zeroing,
+        w,
         aaa: 1,
-        ..fields(2, 0)
+        ..fields(opcode, 2, 0)
     }
 }
 
@@ -150,25 +124,35 @@ pub(crate) const fn at(addr: u64) -> Places {
     }
 }
 
-#[tactic(auto, unfolding(vec_units::specs::Compute::is_vector))]
-fn is_row(row: &Row) -> bool
-    ensures { IsTrue result → IsVectorRow row.now }
-{
-    matches!(row.op, Op::Lane(_) | Op::Vector(_))
-        && (row.width == 8 || row.width == 16 || row.width == 32 || row.width == 64)
+/// The row of the table.
+pub(crate) fn entry(fields: &Fields) -> Option<Row> {
+    Some(row(find(fields)?))
 }
 
-/// Performs an instruction, or says where its walk stops; None where the row is none of a vector operation.
-pub(crate) fn step(
-    seat: &mut Seat,
-    row: &Row,
-    fields: &Fields,
-    places: &Places,
-) -> Option<Result<(), Stop>> {
-    if !is_row(row) {
+fn is_size(width: u8) -> bool
+    ensures { result ≡ is_size_of width }
+{
+    width == 1 || width == 2 || width == 4 || width == 8
+}
+
+#[tactic(auto, unfolding(vec_units::specs::Compute::is_vector))]
+fn is_vector_row(row: &Row) -> bool
+    ensures { IsTrue result → IsVectorRow row.now }
+{
+    let is_vector = matches!(
+        row.op,
+        Op::Lane(_) | Op::Vector(_) | Op::Cross(_) | Op::Width(_) | Op::Mac(_)
+    );
+    is_vector && is_size(row.width / 8) && is_size(memory_width(row))
+}
+
+/// Performs an instruction, or says where its walk stops; None where it has no row, or one that is none of a vector operation.
+pub(crate) fn step(seat: &mut Seat, fields: &Fields, places: &Places) -> Option<Result<(), Stop>> {
+    let row = entry(fields)?;
+    if !is_vector_row(&row) {
         return None;
     }
-    let i = plan(row, fields, places, 0, &seat.vec);
+    let i = plan(&row, fields, places, 0, &seat.vec);
     match walk(&i, &seat.pages) {
         Ok(()) => {
             perform(
