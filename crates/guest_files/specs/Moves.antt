@@ -22,7 +22,7 @@ abbrev pub size_at : FilesValue → ℕ → Option ℕ
 size_at value fd = option_map (λ _. length (content_at value fd)) (file_number (place_at value.places fd))
 
 -- why nothing is read at an offset
-abbrev pub read_refusal : FilesValue → (fd at : ℕ) → Option Errno
+unfoldable pub read_refusal : FilesValue → (fd at : ℕ) → Option Errno
 read_refusal value fd at =
     let place = place_at value.places fd in
     first_failing ((not (does_read place), ebadf) ∷ (is_stream place, espipe) ∷ (nat_le offset_end at, einval) ∷ [])
@@ -32,7 +32,7 @@ abbrev pub read_piece : FilesValue → (fd at most : ℕ) → List ℕ
 read_piece value fd at most = piece_of (content_at value fd) at most
 
 -- why nothing is written at an offset: the last check fails where none of some bytes lies below the cap
-abbrev pub write_refusal : FilesValue → (fd at count : ℕ) → Option Errno
+unfoldable pub write_refusal : FilesValue → (fd at count : ℕ) → Option Errno
 write_refusal value fd at count =
     let place = place_at value.places fd in
     first_failing (
@@ -74,7 +74,7 @@ abbrev pub target_of : FilesValue → ℕ → ℤ → ℕ → Option ℕ
 target_of value fd to whence = option_and_then (λ base. offset_of (pos base +ℤ to)) (base_at value fd whence)
 
 -- why an offset isn't moved
-abbrev pub seek_refusal : FilesValue → ℕ → ℤ → ℕ → Option Errno
+unfoldable pub seek_refusal : FilesValue → ℕ → ℤ → ℕ → Option Errno
 seek_refusal value fd to whence =
     let place = place_at value.places fd in
     first_failing (

@@ -77,7 +77,7 @@ opened value name flags =
     }
 
 -- why a descriptor isn't closed
-abbrev pub close_refusal : FilesValue → ℕ → Option Errno
+unfoldable pub close_refusal : FilesValue → ℕ → Option Errno
 close_refusal value fd = first_failing ((is_none (place_at value.places fd), ebadf) ∷ [])
 
 -- what a close leaves

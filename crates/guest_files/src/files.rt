@@ -176,6 +176,7 @@ impl Files {
     }
 
     /// Closes a descriptor (close(2)).
+    #[tactic(auto, unfolding(crate::specs::Open::close_refusal))]
     pub fn close(&mut self, fd: u32) -> Result<(), Errno>
         ensures answer { result ≡ answer_of (close_refusal self.old fd) tt }
         ensures ok { OnOk result (self.new ≡ closed self.old fd) }
@@ -190,6 +191,7 @@ impl Files {
 
     /// Reads the bytes of a file from an offset on (pread(2)), as many as fit, and answers how many. The descriptor's own
     /// offset stays. An offset from 2^63 up counts as a negative one, which is EINVAL.
+    #[tactic(auto, unfolding(crate::specs::Moves::read_refusal))]
     pub fn read_at(&self, fd: u32, at: u64, into: &mut [u8]) -> Result<usize, Errno>
         ensures answer { result ≡ answer_of (read_refusal self.now fd at)
             (length (read_piece self.now fd at (length into.old))) }
@@ -214,6 +216,7 @@ impl Files {
     /// Writes bytes to a file from an offset on (pwrite(2)), as many as lie below the cap, and answers how many. A gap
     /// between the file's end and the offset becomes zeros. The descriptor's own offset stays, and it doesn't count whether
     /// the descriptor appends: the caller gives the end as the offset then.
+    #[tactic(auto, unfolding(crate::specs::Moves::write_refusal))]
     pub fn write_at(&mut self, fd: u32, at: u64, bytes: &[u8]) -> Result<usize, Errno>
         ensures answer { result ≡ answer_of (write_refusal self.old fd at (length bytes.now))
             (count_under self.old.cap at (length bytes.now)) }
@@ -245,6 +248,7 @@ impl Files {
 
     /// Moves the offset of a descriptor (lseek(2)), from the start (`whence` 0), from where it is (1) or from the file's
     /// end (2), and answers it.
+    #[tactic(auto, unfolding(crate::specs::Moves::seek_refusal))]
     pub fn seek(&mut self, fd: u32, to: i64, whence: u32) -> Result<u64, Errno>
         ensures answer { result ≡ answer_of (seek_refusal self.old fd to whence)
             (offset_after self.old fd to whence) }
