@@ -3,7 +3,9 @@ ghost use Rattle.std.specs.Prelude.{◌≡◌, ◌≤◌, ◌/◌};
 ghost use Rattle.num_lanes.specs.Lane.{IsLength};
 ghost use Rattle.vec_units.specs.Form.{form_of, FormFits, IsVectorRow, vector_len as vector_len_of, is_legacy as is_legacy_class, is_compressed as is_compressed_kind, is_expanded as is_expanded_kind, chooses as chooses_kind, memory_width as memory_width_of, result_bytes as result_bytes_of};
 
-use row_table::{Class, Fields, MaskKind, Op, Row, does_write_rm, source_width, tuple_bytes, vector_bytes};
+use row_table::{
+    Class, Fields, MaskKind, Op, Row, does_write_rm, source_width, tuple_bytes, vector_bytes,
+};
 
 /// What of a row and its fields a vector result depends on.
 #[derive(Clone, Copy)]
@@ -27,7 +29,11 @@ fn vector_len(row: &Row, l: u8) -> u8
     ensures value { result ≡ vector_len_of row.now l }
     ensures length { IsLength result }
 {
-    if row.lengths == 8 { 16 } else { vector_bytes(l) }
+    if row.lengths == 8 {
+        16
+    } else {
+        vector_bytes(l)
+    }
 }
 
 /// Whether the bytes above the vectors stay.
