@@ -2,9 +2,9 @@
 ghost use Rattle.std.specs.Prelude.{IsTrue};
 ghost use Rattle.vec_units.specs.Form.{FormFits};
 
-use crate::{Form, bits, signs, vector};
+use crate::{Form, bits, fed, packed, signs, vector};
 use num_lanes::Vec64;
-use row_table::{LaneOp, MaskKind, Op, VectorOp};
+use row_table::{CrossOp, LaneOp, MacOp, MaskKind, Op, VectorOp, WidthOp};
 
 /// PADDB of vectors of 16 bytes.
 const SUM: Form = Form {
@@ -22,7 +22,11 @@ const SUM: Form = Form {
 fn fits(f: &Form) -> bool
     ensures { IsTrue result → FormFits f.now }
 {
-    matches!(f.op, Op::Lane(_) | Op::Vector(_))
+    let is_vector = matches!(
+        f.op,
+        Op::Lane(_) | Op::Vector(_) | Op::Cross(_) | Op::Width(_) | Op::Mac(_)
+    );
+    is_vector
         && (f.width == 1 || f.width == 8)
         && (f.len == 16 || f.len == 32 || f.len == 64)
         && u32::from(f.lanes) * u32::from(f.width) <= u32::from(f.len)
@@ -216,4 +220,129 @@ fn ptest_says_what_is_in_common_and_beyond(rt: HostRuntime) {
     ] {
         assert_eq!(rt; mask_of(test, &register, &second, u64::MAX), Some(want));
     }
+}
+
+/// 0 to 63.
+fn counted() -> Vec64 {
+    let mut out = [0; 64];
+    for i in 0..64 {
+        out[i] = i as u8;
+    }
+    out
+}
+
+/// VPMOVDB of a vector of 64 bytes, with and without zeroing.
+#[test]
+fn lanes_above_a_narrowed_result_are_zeros(rt: HostRuntime) {
+    let narrowed = Form {
+        op: Op::Width(WidthOp::Vpmovd),
+        len: 64,
+        ..SUM
+    };
+    for (zeroing, left_out) in [(false, 7), (true, 0)] {
+        let form = Form {
+            zeroing,
+            ..narrowed
+        };
+        let mut want = bytes(left_out, 16, 0);
+        want[0] = 0;
+        want[3] = 12;
+        want[15] = 60;
+        assert_eq!(rt;
+            register(form, &[7; 64], &[9; 64], &counted(), 0xF_8009),
+            Some(want)
+        );
+    }
+}
+
+/// VPCOMPRESSB and VPEXPANDB of vectors of 16 bytes.
+#[test]
+fn lanes_are_closed_up_and_spread_out(rt: HostRuntime) {
+    let closed = Form {
+        op: Op::Width(WidthOp::Vpcompress),
+        masking: MaskKind::Compress,
+        ..SUM
+    };
+    let spread = Form {
+        op: Op::Width(WidthOp::Vpexpand),
+        masking: MaskKind::Expand,
+        ..SUM
+    };
+    for (zeroing, left_out) in [(false, 7), (true, 0)] {
+        let closed = Form { zeroing, ..closed };
+        let spread = Form { zeroing, ..spread };
+        let mut lowest = bytes(left_out, 16, 0);
+        lowest[..3].copy_from_slice(&[0, 2, 15]);
+        let mut apart = bytes(left_out, 16, 0);
+        apart[0] = 0;
+        apart[2] = 1;
+        apart[15] = 2;
+        assert_eq!(rt;
+            register(closed, &[7; 64], &[9; 64], &counted(), 0x3_8005),
+            Some(lowest)
+        );
+        assert_eq!(rt;
+            register(spread, &[7; 64], &[9; 64], &counted(), 0x3_8005),
+            Some(apart)
+        );
+    }
+}
+
+/// PBLENDVB with the signs as mask, and PSADBW, whose lanes have 8 bytes.
+#[test]
+fn each_kernel_has_its_operations(rt: HostRuntime) {
+    let blend = Form {
+        op: Op::Cross(CrossOp::Pblendv),
+        masking: MaskKind::Select,
+        ..SUM
+    };
+    let differences = Form {
+        op: Op::Mac(MacOp::Psadbw),
+        width: 8,
+        lanes: 2,
+        ..SUM
+    };
+    let mut want = bytes(9, 16, 0);
+    want[1] = 1;
+    want[15] = 15;
+    assert_eq!(rt;
+        register(blend, &[7; 64], &[9; 64], &counted(), 0x8002),
+        Some(want)
+    );
+    let mut want = [0; 64];
+    want[0] = 28;
+    want[8] = 92;
+    assert_eq!(rt;
+        register(differences, &[7; 64], &[0; 64], &counted(), u64::MAX),
+        Some(want)
+    );
+}
+
+fn fed_of(n: u8, lanes: u8, mask: u64) -> Option<u64> {
+    if n <= 64 && lanes <= 64 {
+        Some(fed(n, lanes, mask))
+    } else {
+        None
+    }
+}
+
+#[test]
+fn elements_are_those_that_lanes_ask_for(rt: HostRuntime) {
+    for (n, lanes, mask, want) in [
+        (4, 16, 0x3333, 3),
+        (4, 16, 0x8000, 8),
+        (4, 16, 0xF_0000, 0),
+        (2, 8, 0x55, 1),
+        (1, 8, 0x80, 1),
+        (16, 16, 0xF_8001, 0xF_8001),
+    ] {
+        assert_eq!(rt;
+            fed_of(n, lanes, mask),
+            Some(want),
+            "{n} for {lanes} by {mask}"
+        );
+    }
+    assert_eq!(rt; packed(16, 0x3_8005), 7);
+    assert_eq!(rt; packed(64, u64::MAX), u64::MAX);
+    assert_eq!(rt; packed(8, 0x100), 0);
 }

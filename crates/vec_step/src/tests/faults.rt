@@ -230,9 +230,10 @@ fn lanes_that_are_closed_up_take_the_memory_that_they_need(rt: HostRuntime) -> R
     assert_eq!(rt; end_of_page(&rt, &s), before);
     s.vec.set_k(1, 0x8001);
     assert_eq!(rt; step(&mut s, &store, &at(EIGHT)), Some(Ok(())));
-    let mut want = before;
-    want[56..60].copy_from_slice(&counted()[..4]);
-    want[60..].copy_from_slice(&counted()[60..]);
+    let mut want = [0; 64];
+    want[48..56].copy_from_slice(&FROM_15_UP[..8]);
+    want[56..60].copy_from_slice(&[0, 1, 2, 3]);
+    want[60..].copy_from_slice(&[60, 61, 62, 63]);
     assert_eq!(rt; end_of_page(&rt, &s), want);
     Ok(())
 }
