@@ -1,5 +1,6 @@
 //! Registers and masks of bits, by their forms.
-ghost use Rattle.std.specs.Prelude.{IsTrue};
+ghost use Rattle.std.specs.Prelude.{◌≡◌, IsTrue};
+ghost use Rattle.vec_units.specs.Compute.{is_vector as is_vector_op};
 ghost use Rattle.vec_units.specs.Form.{FormFits};
 
 use crate::{Form, bits, fed, packed, signs, vector};
@@ -19,14 +20,19 @@ const SUM: Form = Form {
 };
 
 #[tactic(auto, unfolding(crate::specs::Compute::is_vector))]
+fn is_vector(op: Op) -> bool
+    ensures { result ≡ is_vector_op op }
+{
+    matches!(
+        op,
+        Op::Lane(_) | Op::Vector(_) | Op::Cross(_) | Op::Width(_) | Op::Mac(_)
+    )
+}
+
 fn fits(f: &Form) -> bool
     ensures { IsTrue result → FormFits f.now }
 {
-    let is_vector = matches!(
-        f.op,
-        Op::Lane(_) | Op::Vector(_) | Op::Cross(_) | Op::Width(_) | Op::Mac(_)
-    );
-    is_vector
+    is_vector(f.op)
         && (f.width == 1 || f.width == 8)
         && (f.len == 16 || f.len == 32 || f.len == 64)
         && u32::from(f.lanes) * u32::from(f.width) <= u32::from(f.len)
