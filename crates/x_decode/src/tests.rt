@@ -1,7 +1,9 @@
 //! Known byte lists. What is expected is the SDM's, and on want of an instruction this machine's.
 use crate::*;
 use row_table::{BitOp, CoreOp, GprOp, Op, row};
+use std::process::Abort;
 
+mod displacements;
 mod evex;
 mod opmasks;
 mod products;
@@ -444,6 +446,26 @@ fn displacements_of_evex_go_by_tuple_and_length(rt: HostRuntime) {
     for (bytes, want) in evex::displacement_bytes() {
         assert_eq!(rt; vex_told_of(bytes), Some(*want), "at {bytes:?}");
     }
+}
+
+fn displacement_of(bytes: &[u8]) -> Option<i64> {
+    match decode(bytes) {
+        Seen::Instr(decoded, _) => Some(decoded.disp),
+        Seen::Short | Seen::TooLong | Seen::Bad => None,
+    }
+}
+
+fn assert_displacements(rt: &impl Abort, table: &[(&[u8], i64)]) {
+    for (bytes, want) in table {
+        assert_eq!(rt; displacement_of(bytes), Some(*want), "at {bytes:?}");
+    }
+}
+
+#[test]
+fn displacements_of_one_byte_are_multiplied_by_each_tuple(rt: HostRuntime) {
+    assert_displacements(&rt, displacements::of_widths());
+    assert_displacements(&rt, displacements::of_broadcasts());
+    assert_displacements(&rt, displacements::of_vectors());
 }
 
 #[test]
