@@ -3,10 +3,10 @@ use Rattle.std.proofs.Common.{◌≡◌, ◌≢◌, ℕ, ◌<◌, ◌⊎◌, zer
 use Rattle.std.proofs.lemmas.List.{get_or-map, get_or-set_other, get_or-set_same, length-map, length-set, map-set}
 use Rattle.std.proofs.lemmas.List.Elements.{All-set}
 use Rattle.std.specs.List.{All}
-use Rattle.machine_state.specs.World.{GuestFile, IsGuestFile, IsPlace, descriptor_count, first_descriptors, input_place, output_place, place_at}
+use Rattle.machine_state.specs.World.{GuestFile, IsGuestFile, IsPlace, descriptor_count, first_descriptors, input_place, output_place, place_at, FitsFile, IsOpened, no_file}
 use Rattle.machine_state.specs.declared.kinds.Place.{Place}
 use Rattle.guest_files.specs.Entries.{guest_file}
-use Rattle.guest_files.specs.Files.{AreEntries, FitsFile, IsOpened, file_of, no_file}
+use Rattle.guest_files.specs.Files.{AreEntries, file_of}
 use Rattle.guest_files.specs.Kept.{AreKept, HasBytes, HasRoom}
 use Rattle.guest_files.specs.declared.entries.Entry.{Entry}
 

@@ -3,11 +3,10 @@ use Rattle.std.proofs.Common.{◌≡◌, ℕ, ◌+◌, ◌^◌, ◌<◌, ◌≤�
 use Rattle.std.proofs.lemmas.List.{get_or_past, map-set}
 use Rattle.std.specs.Vec.{vec_capacity}
 use Rattle.machine_state.specs.Memory.{AreBytes}
-use Rattle.machine_state.specs.World.{GuestFile, IsGuestFile, IsPlace, descriptor_count, place_at}
+use Rattle.machine_state.specs.World.{GuestFile, IsGuestFile, IsPlace, descriptor_count, place_at, FitsFile, IsOpened, no_file}
 use Rattle.machine_state.specs.declared.kinds.Place.{Place}
 use Rattle.guest_files.specs.Content.{content_with, count_below}
 use Rattle.guest_files.specs.Entries.{guest_file}
-use Rattle.guest_files.specs.Files.{FitsFile, IsOpened, no_file}
 use Rattle.guest_files.specs.Kept.{AreKept, HasRoom, value_of}
 use Rattle.guest_files.specs.Moves.{written_at}
 use Rattle.guest_files.specs.declared.entries.Entry.{Entry}

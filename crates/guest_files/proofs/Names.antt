@@ -5,9 +5,8 @@ use Rattle.std.proofs.lemmas.List.Sums.{position_or_len_is}
 use Rattle.std.specs.List.{AllPairs, position_or_len}
 use Rattle.std.specs.Prelude.{string_bytes}
 use Rattle.std.specs.Str.{bytes_eq}
-use Rattle.machine_state.specs.World.{GuestFile}
+use Rattle.machine_state.specs.World.{GuestFile, no_file}
 use Rattle.guest_files.specs.Entries.{guest_file}
-use Rattle.guest_files.specs.Files.{no_file}
 use Rattle.guest_files.specs.Open.{number_of}
 use Rattle.guest_files.specs.declared.entries.Entry.{Entry}
 

@@ -2,12 +2,12 @@
 use Rattle.std.proofs.Common.{◌≡◌, ℕ, ◌<◌, Bool, true, false, ◌&&◌, List, [], ◌∷◌, length, get_or, set, map, Option, Some, None, if◌then◌else◌, is_none, refl, ap, sym, ◌∙◌, arith, lit<}
 use Rattle.std.proofs.lemmas.List.{get_or-set_same, length-map, length-set, map-set}
 use Rattle.std.specs.Vec.{vec_capacity}
-use Rattle.machine_state.specs.World.{GuestFile, IsGuestFile, descriptor_count}
+use Rattle.machine_state.specs.World.{GuestFile, IsGuestFile, descriptor_count, FitsFile, no_file}
 use Rattle.machine_state.specs.declared.kinds.Place.{Place}
 use Rattle.guest_files.specs.Checks.{Check, first_failing}
 use Rattle.guest_files.specs.Entries.{guest_file}
 use Rattle.guest_files.specs.Errnos.{emfile}
-use Rattle.guest_files.specs.Files.{FilesValue, FitsFile, no_file}
+use Rattle.guest_files.specs.Files.{FilesValue}
 use Rattle.guest_files.specs.Kept.{AreKept, HasRoom, value_of}
 use Rattle.guest_files.specs.Open.{asks_to_write, file_checks, has_flag, lowest_free, name_checks, number_of, open_refusal, opened, opened_file, opened_place}
 use Rattle.guest_files.specs.declared.entries.Entry.{Entry}

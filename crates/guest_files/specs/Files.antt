@@ -1,7 +1,7 @@
 -- The guest's files and its descriptors.
 use Rattle.std.specs.Prelude.{◌≡◌, ◌≢◌, ℕ, ◌≤◌, false, true, List, [], length, slice_index_or, slice_set, All, Option, Some, None, IfSome}
 use Rattle.std.specs.List.{AllPairs}
-use Rattle.machine_state.specs.World.{GuestFile, IsGuestFile, IsPlace, descriptor_count, place_at}
+use Rattle.machine_state.specs.World.{GuestFile, IsGuestFile, IsOpened, IsPlace, descriptor_count, no_file, place_at}
 use Rattle.machine_state.specs.declared.kinds.Place.{Place}
 
 -- the files, what the descriptors stand for by their numbers, and the most bytes that a file may have
@@ -31,10 +31,6 @@ pub record AreEntries (cap : ℕ) (files : List GuestFile) : Type 0 where
   pub fit : All (IsFit cap) files
   pub distinct : AllPairs (λ a b. a.name ≢ b.name) files
 
--- a file with nothing in it, which stands where a number is no file's
-abbrev pub no_file : GuestFile
-no_file = record { name = []; content = []; exists = false; writable = false }
-
 -- the file that a place is of
 abbrev pub file_of : List GuestFile → Option ℕ → GuestFile
 file_of files None = no_file
@@ -44,15 +40,6 @@ file_of files (Some number) = slice_index_or files number no_file
 abbrev pub with_file : List GuestFile → Option ℕ → GuestFile → List GuestFile
 with_file files None file = files
 with_file files (Some number) file = slice_set files number file
-
--- the file of an open descriptor exists, and may be written where the descriptor writes
-pub record FitsFile (place : Place) (file : GuestFile) : Type 0 where
-  pub exists : file.exists ≡ true
-  pub writable : place.writes ≡ true → file.writable ≡ true
-
--- a place is of no file, or of one that fits it
-abbrev pub IsOpened : List GuestFile → Place → Type 0
-IsOpened files place = IfSome place.file (λ number. FitsFile place (slice_index_or files number no_file))
 
 -- files and descriptors as they can be
 pub record AreFiles (value : FilesValue) : Type 0 where

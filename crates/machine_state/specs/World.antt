@@ -1,5 +1,5 @@
 -- The world: a machine state, and what the kernel keeps for it.
-use Rattle.std.specs.Prelude.{ℕ, ◌≡◌, ◌≤◌, ◌<◌, ◌+◌, ◌-◌, ◌^◌, Bool, true, false, List, ◌∷◌, length, slice_index_or, replicate, All, Option, Some, None, IfSome}
+use Rattle.std.specs.Prelude.{ℕ, ◌≡◌, ◌≤◌, ◌<◌, ◌+◌, ◌-◌, ◌^◌, Bool, true, false, List, [], ◌∷◌, length, slice_index_or, replicate, All, Option, Some, None, IfSome}
 use Rattle.std.specs.Int.RustNames.{bit_and}
 use Rattle.machine_state.specs.Memory.{AreBytes}
 use Rattle.machine_state.specs.Regions.{FitRegions}
@@ -29,8 +29,9 @@ pub record GuestFile : Type 0 where
 
 -- the state; the limits on mapped pages and on the bytes of a guest file; the regions of the mapped pages; the heap's
 -- start and the break; actions by signal, and the blocked signals, as a number whose bit n - 1 stands for signal n and which
--- never has 9 or 19; the alternate stack; what the descriptors stand for, in the order of their numbers, None where one isn't open; the files; the input that is left; output and error output
--- whole, with what stood there before; and the number of the random stream
+-- never has 9 or 19; the alternate stack; what the descriptors stand for, in the order of their numbers, None where one isn't
+-- open; the files; the input that is left; output and error output whole, with what stood there before; and the number of the
+-- random stream
 pub record World : Type 0 where
   pub state : State
   pub pages : ℕ
@@ -105,6 +106,19 @@ pub record IsPlace (files number : ℕ) (place : Place) : Type 0 where
   pub file : IfSome place.file (λ file. file < files)
   pub at : place.at < 2 ^ 63
 
+-- a file with nothing in it, which stands where a number is no file's
+abbrev pub no_file : GuestFile
+no_file = record { name = []; content = []; exists = false; writable = false }
+
+-- the file of an open descriptor exists, and may be written where the descriptor writes
+pub record FitsFile (place : Place) (file : GuestFile) : Type 0 where
+  pub exists : file.exists ≡ true
+  pub writable : place.writes ≡ true → file.writable ≡ true
+
+-- a place is of no file, or of one that fits it
+abbrev pub IsOpened : List GuestFile → Place → Type 0
+IsOpened files place = IfSome place.file (λ number. FitsFile place (slice_index_or files number no_file))
+
 -- a world as it can be
 pub record IsWorld (world : World) : Type 0 where
   pub state : IsState world.state
@@ -115,6 +129,7 @@ pub record IsWorld (world : World) : Type 0 where
   pub regions : FitRegions world.state.memory.perms world.regions
   pub descriptors : length world.descriptors ≡ descriptor_count
   pub place : (number : ℕ) → IfSome (place_at world.descriptors number) (IsPlace (length world.files) number)
+  pub opened : (number : ℕ) → IfSome (place_at world.descriptors number) (IsOpened world.files)
   pub files : All (IsGuestFile world.cap) world.files
   pub left : AreBytes world.left
   pub out : AreBytes world.out

@@ -1,7 +1,7 @@
 use Rattle.std.proofs.Common.{◌≡◌, ℕ, ◌<◌, false, get_or, map}
 use Rattle.std.specs.Str.{bytes_eq}
+use Rattle.machine_state.specs.World.{no_file}
 use Rattle.guest_files.specs.Entries.{guest_file}
-use Rattle.guest_files.specs.Files.{no_file}
 use Rattle.guest_files.proofs.entries.number_of.Given as goal
 
 abbrev pub invariant-loop-number : goal.invariant-loop-number

@@ -4,8 +4,9 @@ use Rattle.std.proofs.Math.Seq.{map-set_same}
 use Rattle.std.proofs.lemmas.Grind.{common_steps}
 use Rattle.std.proofs.lemmas.List.{get_or-map, get_or-set_other, get_or-set_same, get_or_default, take_at}
 use Rattle.std.specs.List.{All}
+use Rattle.machine_state.specs.World.{no_file}
 use Rattle.guest_files.specs.Entries.{guest_file}
-use Rattle.guest_files.specs.Files.{IsFit, no_file}
+use Rattle.guest_files.specs.Files.{IsFit}
 use Rattle.guest_files.specs.Kept.{HasRoom}
 use Rattle.guest_files.proofs.Keeping.{entry_holds}
 use Rattle.guest_files.proofs.entries.reserve_all.Goals as goal

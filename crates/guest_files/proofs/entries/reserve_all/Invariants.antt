@@ -1,7 +1,7 @@
 use Rattle.std.proofs.Common.{◌≡◌, ℕ, ◌<◌, get_or, map}
+use Rattle.machine_state.specs.World.{no_file}
 use Rattle.guest_files.specs.declared.entries.Entry.{Entry}
 use Rattle.guest_files.specs.Entries.{guest_file}
-use Rattle.guest_files.specs.Files.{no_file}
 use Rattle.guest_files.specs.Kept.{HasBytes, HasRoom}
 use Rattle.guest_files.proofs.entries.reserve_all.Given as goal
 

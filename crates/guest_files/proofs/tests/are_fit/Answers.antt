@@ -2,8 +2,8 @@
 use Rattle.std.proofs.Common.{◌≡◌, ◌<◌, Some, true, ap, arith, below_more, get_or, length, map, sym, ◌∙◌}
 use Rattle.std.proofs.lemmas.Grind.{common_steps}
 use Rattle.std.proofs.lemmas.List.{get_or_default, length-map}
+use Rattle.machine_state.specs.World.{no_file}
 use Rattle.guest_files.specs.Entries.{guest_file}
-use Rattle.guest_files.specs.Files.{no_file}
 use Rattle.guest_files.specs.Open.{number_of}
 use Rattle.guest_files.proofs.Keeping.{file_of_entry}
 use Rattle.guest_files.proofs.Names.{distinct_names}

@@ -1,6 +1,7 @@
 use Rattle.std.proofs.Common.{◌≡◌, ℕ, ◌<◌, get_or, map, Some}
+use Rattle.machine_state.specs.World.{no_file}
 use Rattle.guest_files.specs.Entries.{guest_file}
-use Rattle.guest_files.specs.Files.{IsFit, no_file}
+use Rattle.guest_files.specs.Files.{IsFit}
 use Rattle.guest_files.specs.Open.{number_of}
 use Rattle.guest_files.proofs.tests.are_fit.Given as goal
 
