@@ -29,7 +29,8 @@ slot_entry pages slot page mapped apart spot =
     let there = framed_slot pages page mapped apart spot.is in
     subst (λ (k : ℕ). (entry : Entry) × (IsSeatOf pages.slots page k) × (get_or pages.slots k None ≡ Some entry)) spot.slot_is (there.0, there.1, there.2)
 
-swapped_at : (pages : PagesValue) (page k : ℕ) (entry : Entry) → IsSeatOf pages.slots page k → get_or pages.slots k None ≡ Some entry → is_swapped pages page ≡ is_on_swap entry.place
+-- whether a slot's page is on the swap
+pub swapped_at : (pages : PagesValue) (page k : ℕ) (entry : Entry) → IsSeatOf pages.slots page k → get_or pages.slots k None ≡ Some entry → is_swapped pages page ≡ is_on_swap entry.place
 unfolding is_swapped
 swapped_at pages page k entry seat is = ap seat_swapped (seek_at pages.slots page k entry seat is)
 

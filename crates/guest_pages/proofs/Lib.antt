@@ -17,3 +17,6 @@ pub mod Keeps
 pub mod Carries
 pub mod Laws
 pub mod Brings
+pub mod Moves
+pub mod Togethers
+pub mod Aways

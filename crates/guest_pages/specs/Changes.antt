@@ -116,6 +116,11 @@ IsZeroed old new page = (mapped : Mapped) → table_of old page ≡ Some mapped 
 abbrev pub gets_frame : PagesValue → ℕ → Bool
 gets_frame pages page = is_none (table_of pages page) || pages.frames == length pages.slots
 
+-- these are the bytes of a page, whatever the swap holds
+pub record AreBytesOf (pages : PagesValue) (page : ℕ) (bytes : List ℕ) : Type 0 where
+  pub whole : length bytes ≡ page_size
+  pub shown : (swap : Swap) (addr : ℕ) → addr / page_size ≡ page → byte_of pages swap addr ≡ slice_index bytes (addr % page_size)
+
 -- a byte of a page that is away, on the swap or as zeros
 abbrev pub away_byte : Bool → List ℕ → ℕ → ℕ
 away_byte swapped saved at = if swapped then slice_index saved at else 0

@@ -8,6 +8,7 @@ pub mod Walk
 pub mod Pages
 pub mod Order
 pub mod Changes
+pub mod Together
 pub mod Laws
 pub mod Lists
 pub mod Slots

@@ -8,8 +8,10 @@ mod lists;
 mod numbers;
 mod order;
 mod pages;
+mod together;
 mod walking;
 
 pub use keeping::keeping_law;
 pub use machine_state::{Kind, Miss, Perms};
 pub use pages::{Full, Pages};
+pub use together::{clean_law, none_swapped_law, waiting_law};

@@ -57,11 +57,12 @@ impl Model for Pages {
 impl Pages {
     ghost use Rattle.std.specs.Prelude.{◌≡◌, ◌<◌, ◌≤◌, ◌+◌, ◌/◌, ◌%◌, ◌^◌, ◌↔◌, ◌||◌, ◌&&◌, ℕ, List, length, take, slice_range, slice_index_or, nat_lt, None, Some, MatchResult, MatchOption, OnOk, OnErr, IfOk, IsErr, IsSome};
     ghost use Rattle.std.specs.Borrow.{sem};
-    ghost use Rattle.machine_state.specs.Memory.{first_miss, miss_at};
+    ghost use Rattle.machine_state.specs.Memory.{Swap, first_miss, miss_at};
     ghost use Rattle.guest_pages.specs.Table.{perms_in, blocked, answer_of, in_frame};
     ghost use Rattle.guest_pages.specs.Pages.{table_of, mapped_count, resident_count, lent};
     ghost use Rattle.guest_pages.specs.Changes.{AllResident, IsBlank, IsShown, IsWritten, IsMapped, IsUnmapped, IsProtected, IsZeroed, gets_frame};
     ghost use Rattle.guest_pages.specs.Order.{AreOrdered};
+    ghost use Rattle.guest_pages.specs.Together.{AreClean, AreTogether};
     ghost use Rattle.guest_pages.specs.Laws.{AreCounted, HaveSlots, FitMemory};
     ghost use Rattle.guest_pages.specs.Slots.{LacksPage, IsSeatOf, IsGranted, CanTake, IsWalked};
     ghost use Rattle.guest_pages.specs.Entry.{away_slot_of};
@@ -97,6 +98,7 @@ impl Pages {
         ensures slots { HaveSlots self.now }
         ensures memory { FitMemory self.now }
         ensures ordered { AreOrdered self.now }
+        ensures together { (swap : Swap) → AreClean self.now swap → AreTogether self.now swap }
     {
         self.slots.len()
     }

@@ -167,6 +167,7 @@ fn a_write_across_pages_marks_both(rt: HostRuntime) -> Result<(), Fail> {
 }
 
 #[test]
+#[tactic(auto, using(crate::proofs::Togethers::zeroed_stays))]
 fn lent_bytes_are_written_and_zeroed(rt: HostRuntime) -> Result<(), Fail> {
     let mut pages = Pages::new(rt.alloc(), 8, 8)?;
     if let Ok(part) = pages.lend(0x1010, 3) {
@@ -206,5 +207,116 @@ fn a_page_beyond_the_frames_is_away(rt: HostRuntime) -> Result<(), Fail> {
     pages.map_page(0x9000, BOTH)?;
     assert_eq!(rt; pages.write(0x8FFF, &[1, 2]), Ok(()));
     assert_eq!(rt; byte_at(&pages, 0x9000), Ok(2));
+    Ok(())
+}
+
+// The number of the page that was brought first, where no frame is free.
+fn first_page(pages: &Pages) -> Option<u64> {
+    if pages.has_free() {
+        return None;
+    }
+    match pages.slots.get(pages.first_brought() as usize) {
+        Some(Some(entry)) => Some(entry.page),
+        Some(None) | None => None,
+    }
+}
+
+// Gives up the frame of the page that was brought first, where no frame is free, and answers its first byte where it had
+// unsaved ones.
+fn leave_first(pages: &mut Pages) -> Option<u8> {
+    if pages.has_free() {
+        return None;
+    }
+    let slot = pages.first_brought();
+    let byte = match pages.unsaved(slot) {
+        Some(bytes) => bytes.first().copied(),
+        None => None,
+    };
+    pages.leave(slot);
+    byte
+}
+
+// Gives the page at an address, where it is away, a free frame whose bytes are all this one, and answers whether the page was
+// on the swap.
+fn enter_at(pages: &mut Pages, addr: u64, byte: u8) -> Option<bool> {
+    if !pages.has_free() {
+        return None;
+    }
+    match pages.ready(addr, 1, READ) {
+        Err(Miss::Away(slot)) => {
+            let on_swap = pages.on_swap(slot);
+            pages.enter(slot, &[byte; 4096]);
+            Some(on_swap)
+        }
+        Ok(()) | Err(Miss::Unmapped(_)) | Err(Miss::Denied(_)) | Err(Miss::NonCanonical(_)) => None,
+    }
+}
+
+// Lets the pages that were brought first leave and come again, which weren't written.
+fn turn_pages(rt: &impl Abort, pages: &mut Pages, addrs: &[u64]) {
+    for addr in addrs {
+        assert!(rt; !pages.has_free());
+        assert_eq!(rt; leave_first(pages), None, "at {addr:#x}");
+        assert_eq!(rt; enter_at(pages, *addr, 0), Some(false), "at {addr:#x}");
+    }
+}
+
+#[test]
+fn a_page_leaves_and_comes_with_its_mark(rt: HostRuntime) -> Result<(), Fail> {
+    let mut pages = Pages::new(rt.alloc(), 8, 12)?;
+    map_pages(&mut pages, 9)?;
+    assert_eq!(rt; first_page(&pages), Some(1));
+    assert_eq!(rt; pages.write(0x2000, &[7]), Ok(()));
+
+    // A page that wasn't written leaves as zeros, one that was to the swap.
+    assert_eq!(rt; leave_first(&mut pages), None);
+    assert!(rt; pages.has_free());
+    assert_eq!(rt; enter_at(&mut pages, 0x9000, 0), Some(false));
+    assert_eq!(rt; mark_of(&pages, 9), Some(Mark::Fresh));
+    assert_eq!(rt; first_page(&pages), Some(2));
+    assert_eq!(rt; leave_first(&mut pages), Some(7));
+
+    // It comes from there with its copy, and leaves without bytes to save, and with them once it was written.
+    assert_eq!(rt; enter_at(&mut pages, 0x2000, 7), Some(true));
+    assert_eq!(rt; mark_of(&pages, 2), Some(Mark::Saved));
+    assert_eq!(rt; byte_at(&pages, 0x2FFF), Ok(7));
+    let others = [0x1000, 0x3000, 0x4000, 0x5000, 0x6000, 0x7000, 0x8000];
+    turn_pages(&rt, &mut pages, &others);
+    assert_eq!(rt; first_page(&pages), Some(2));
+    assert_eq!(rt; leave_first(&mut pages), None);
+    assert_eq!(rt; enter_at(&mut pages, 0x2000, 7), Some(true));
+    assert_eq!(rt; pages.write(0x2001, &[8]), Ok(()));
+    assert_eq!(rt; mark_of(&pages, 2), Some(Mark::Written));
+    Ok(())
+}
+
+#[test]
+fn a_page_mapped_anew_gives_its_frame_and_its_copy_up(rt: HostRuntime) -> Result<(), Fail> {
+    let mut pages = Pages::new(rt.alloc(), 8, 12)?;
+    map_pages(&mut pages, 8)?;
+    assert_eq!(rt; pages.write(0x1000, &[1]), Ok(()));
+    assert_eq!(rt; leave_first(&mut pages), Some(1));
+
+    // On the swap or in a frame, the page is zeros then, and away where there are more pages than frames.
+    pages.map_page(0x1000, BOTH)?;
+    assert_eq!(rt; enter_at(&mut pages, 0x1000, 0), Some(false));
+    assert_eq!(rt; pages.write(0x3000, &[3]), Ok(()));
+    pages.map_page(0x3000, BOTH)?;
+    assert_eq!(rt; enter_at(&mut pages, 0x3000, 0), Some(false));
+    assert_eq!(rt; mark_of(&pages, 3), Some(Mark::Fresh));
+    pages.unmap_page(0x2000);
+    pages.map_page(0x9000, BOTH)?;
+    assert_eq!(rt; mark_of(&pages, 9), Some(Mark::Fresh));
+    pages.map_page(0x9000, BOTH)?;
+    pages.zero_page(0x9000);
+    assert_eq!(rt; mark_of(&pages, 9), None);
+    assert_eq!(rt; enter_at(&mut pages, 0x9000, 0), Some(false));
+
+    // The pages that are in frames came in this order.
+    for page in [4, 5, 6, 7, 8, 1, 3, 9u64] {
+        assert_eq!(rt; first_page(&pages), Some(page));
+        assert_eq!(rt; leave_first(&mut pages), None);
+        assert_eq!(rt; enter_at(&mut pages, page * 0x1000, 0), Some(false));
+    }
     Ok(())
 }

@@ -1,5 +1,6 @@
 use Rattle.std.proofs.Common.{refl}
 use Rattle.guest_pages.proofs.Laws.{pages_counted, pages_slots, pages_memory, pages_ordered}
+use Rattle.guest_pages.proofs.Togethers.{pages_together}
 use Rattle.guest_pages.proofs.pages.Pages.limit.Goals as goal
 
 pub returns-clause-counts : goal.returns-clause-counts
@@ -13,3 +14,7 @@ returns-clause-memory c = rw (← c.self.view_is) (pages_memory _ c.self.invaria
 
 pub returns-clause-ordered : goal.returns-clause-ordered
 returns-clause-ordered c = rw (← c.self.view_is) (pages_ordered _ c.self.inside.order.slots.items c.self.invariant.kept.sound.apart refl c.self.invariant.ordered)
+
+pub returns-clause-together : goal.returns-clause-together
+returns-clause-together c = λ swap clean.
+    rw (← c.self.view_is) (pages_together _ _ _ _ _ _ swap refl c.self.invariant (rw (← c.self.view_is) at clean))

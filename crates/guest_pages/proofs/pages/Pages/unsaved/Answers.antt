@@ -2,12 +2,20 @@ use Rattle.std.proofs.Common.{◌<◌, ◌∙◌, ap, None, length, arith, is_so
 use Rattle.std.proofs.lemmas.List.{get_or_read}
 use Rattle.guest_pages.specs.Entry.{slot_unsaved}
 use Rattle.guest_pages.proofs.Brings.{slot_within, slot_written, copied_some}
+use Rattle.guest_pages.proofs.Moves.{unsaved_bytes}
 use Rattle.guest_pages.proofs.pages.Pages.unsaved.Goals as goal
 
 pub index-requires : goal.index-requires
 index-requires c =
     let within : c.args.slot < length c.self.inside.slots.items = slot_within _ c.args.slot _ _ (rw (← c.self.view_is) at c.requires.resident.there) in
     omega arith
+
+pub returns-clause-bytes : goal.returns-clause-bytes
+returns-clause-bytes c = λ page mapped spot.
+    let within : c.args.slot < length c.self.inside.slots.items = slot_within _ c.args.slot _ _ (rw (← c.self.view_is) at c.requires.resident.there) in
+    rw (← c.self.view_is)
+    (unsaved_bytes _ c.args.slot page mapped c.unsaved.result c.self.invariant.kept.sound.apart (rw (← c.self.view_is) at spot)
+    (c.unsaved.ensures.bytes ∙ ap slot_unsaved (get_or_read c.self.inside.slots.items c.args.slot c.index.result.now within c.index.ensures None)) c.unsaved.ensures.whole)
 
 pub returns-clause-written : goal.returns-clause-written
 returns-clause-written c = λ page mapped spot.
