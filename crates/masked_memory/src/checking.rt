@@ -1,9 +1,11 @@
 //! The accesses of lanes in memory.
-ghost use Rattle.std.specs.Prelude.{◌≡◌, ◌+◌, ◌*◌, ◌%◌, ◌^◌, ◌<◌, ◌≤◌, None, Some, MatchResult};
+ghost use Rattle.std.specs.Prelude.{ℕ, ◌≡◌, ◌+◌, ◌*◌, ◌%◌, ◌^◌, ◌<◌, ◌≤◌, true, None, Some, MatchResult};
 ghost use Rattle.guest_pages.specs.Pages.{table_of};
 ghost use Rattle.guest_pages.specs.Walk.{walk};
 ghost use Rattle.masked_memory.specs.Lanes.{lane_place, lane_access, lane_accesses};
+ghost use Rattle.masked_memory.specs.Parts.{byte_place, AreFree};
 
+use crate::parts::Part;
 use gpr_flags::has_bit;
 use guest_pages::Pages;
 use machine_state::{Access, Kind, Stop};
@@ -63,9 +65,43 @@ fn walk_lanes(
     Ok(())
 }
 
-/// Walks along the accesses of the lanes that the mask has, from lane 0 up. Where all the bytes can be accessed at once, so
+/// Whether the bytes of a part that belong to lanes of the mask can be accessed now. A part that has none isn't asked for.
+fn is_ready(pages: &Pages, part: Part, width: u8, mask: u64, kind: Kind) -> bool
+    requires width { 0 < width }
+    requires some { 0 < part.len }
+    requires most { part.from + part.len ≤ 64 * width }
+    ensures { result ≡ true → (addr : ℕ) → part.addr ≡ byte_place addr part.from
+        → AreFree (table_of pages.now) kind addr width mask part.from part.len }
+{
+    if !part.has_lane(width, mask) {
+        return true;
+    }
+    match pages.ready(part.addr, part.len as u64, kind) {
+        Ok(()) => true,
+        Err(_) => false,
+    }
+}
+
+/// Whether the parts that have bytes of lanes of the mask can be accessed now, each asked for once. Then these lanes can be too.
+fn are_ready(pages: &Pages, addr: u64, width: u8, lanes: u8, mask: u64, kind: Kind) -> bool
+    requires { lanes ≤ 64 }
+    ensures { result ≡ true → walk (table_of pages.now) (lane_accesses kind addr width mask lanes) ≡ None }
+{
+    let _ = pages.limit();
+    let len = lanes as usize * width as usize;
+    let mut from = 0;
+    while from < len {
+        let part = Part::new(addr, from, len);
+        if !is_ready(pages, part, width, mask, kind) {
+            return false;
+        }
+        from += part.len;
+    }
+    true
+}
+
+/// Walks along the accesses of the lanes that the mask has, from lane 0 up. Where the parts of the operand can be accessed, so
 /// can they.
-#[tactic(auto, using(crate::proofs::Spans::span_free))]
 pub fn check_lanes(
     pages: &Pages,
     addr: u64,
@@ -78,9 +114,9 @@ pub fn check_lanes(
     ensures { MatchResult result (λ _. walk (table_of pages.now) (lane_accesses kind addr width mask lanes) ≡ None)
         (λ stop. walk (table_of pages.now) (lane_accesses kind addr width mask lanes) ≡ Some stop) }
 {
-    let len = u64::from(lanes) * u64::from(width);
-    match pages.ready(addr, len, kind) {
-        Ok(()) => Ok(()),
-        Err(_) => walk_lanes(pages, addr, width, lanes, mask, kind),
+    if are_ready(pages, addr, width, lanes, mask, kind) {
+        Ok(())
+    } else {
+        walk_lanes(pages, addr, width, lanes, mask, kind)
     }
 }

@@ -3,6 +3,7 @@
 
 mod checking;
 mod loading;
+mod parts;
 mod storing;
 
 pub use checking::check_lanes;

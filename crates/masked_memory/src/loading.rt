@@ -1,40 +1,36 @@
 //! Loads of lanes.
-ghost use Rattle.std.specs.Prelude.{◌≡◌, ◌+◌, ◌*◌, ◌/◌, ◌%◌, ◌^◌, ◌<◌, ◌≤◌, None, Some, OnOk, OnErr, MatchResult, IsTrue, if◌then◌else◌, length, ◌&&◌, nat_lt};
-ghost use Rattle.machine_state.specs.Memory.{Swap};
+ghost use Rattle.std.specs.Prelude.{ℕ, ◌≡◌, ◌+◌, ◌*◌, ◌/◌, ◌%◌, ◌^◌, ◌<◌, ◌≤◌, None, Some, OnOk, OnErr, MatchResult, IsTrue, slice_index};
+ghost use Rattle.machine_state.specs.Memory.{page_size, Swap};
 ghost use Rattle.gpr_flags.specs.Registers.{is_size};
+ghost use Rattle.guest_pages.specs.Table.{blocked};
 ghost use Rattle.guest_pages.specs.Pages.{table_of, byte_of};
 ghost use Rattle.guest_pages.specs.Walk.{walk};
 ghost use Rattle.num_lanes.specs.Lane.{lane_of};
-ghost use Rattle.masked_memory.specs.Lanes.{lane_accesses, loaded_lane, loaded, miss_of};
+ghost use Rattle.masked_memory.specs.Lanes.{lane_accesses, loaded, miss_of};
+ghost use Rattle.masked_memory.specs.Parts.{byte_place, HasLane, AreLoaded};
 
-use crate::checking::{check_lanes, place};
-use gpr_flags::has_bit;
+use crate::checking::check_lanes;
+use crate::parts::Part;
 use guest_pages::Pages;
 use machine_state::{Kind, Miss};
-use num_lanes::{Vec64, get_lane, set_lane};
+use num_lanes::Vec64;
 
-/// The number that a lane has after a load.
-#[tactic(auto, using(crate::proofs::LaneWalks::lane_free), unfolding(crate::specs::Lanes::lane_access, crate::specs::Lanes::loaded_lane))]
-fn lane_number<const W: usize>(
-    pages: &Pages,
-    addr: u64,
-    lanes: u8,
-    mask: u64,
-    lane: usize,
-    kind: Kind,
-    old: &[u8],
-) -> u64
+/// Loads the bytes of a part that belong to lanes of the mask. A part that has none isn't asked for.
+fn load_part<const W: usize>(pages: &Pages, part: Part, mask: u64, kind: Kind, bytes: &mut Vec64)
     requires width { IsTrue (is_size W) }
-    requires lane { lane < 64 }
-    requires old { lane * W + W ≤ length old.now }
-    requires ready { walk (table_of pages.now) (lane_accesses kind addr W mask lanes) ≡ None }
-    ensures value { (w : Swap) → result ≡ loaded_lane (byte_of pages.now w) addr W lanes mask (lane_of W old.now) lane }
-    ensures small { result < 2 ^ (8 * W) }
+    requires some { 0 < part.len }
+    requires one_page { part.addr % page_size + part.len ≤ page_size }
+    requires most { part.from + part.len ≤ 64 }
+    requires ready { HasLane W mask part.from part.len → blocked (table_of pages.now) kind part.addr part.len ≡ None }
+    ensures loaded { (w : Swap) (addr : ℕ) → part.addr ≡ byte_place addr part.from
+        → AreLoaded (byte_of pages.now w) addr W mask part.from (part.from + part.len) bytes.old bytes.new }
+    ensures bytes { (k : ℕ) → slice_index bytes.new k < 256 }
 {
-    if lane < lanes as usize && has_bit(mask, lane as u32) {
-        pages.load(place(addr, W as u8, lane), W as u8, kind)
-    } else {
-        get_lane::<W>(old, lane)
+    if part.has_lane(W as u8, mask) {
+        match pages.view(part.addr, part.len, kind) {
+            Ok(shown) => part.copy::<W>(mask, shown, &mut bytes[part.from..part.from + part.len]),
+            Err(_) => unreachable!(),
+        }
     }
 }
 
@@ -51,12 +47,16 @@ fn load_at<const W: usize>(
     requires ready { walk (table_of pages.now) (lane_accesses kind addr W mask lanes) ≡ None }
     ensures { (w : Swap) → result ≡ loaded (byte_of pages.now w) addr W lanes mask (lane_of W into.now) }
 {
-    let mut out = [0u8; 64];
-    for lane in 0..64 / W {
-        let value = lane_number::<W>(pages, addr, lanes, mask, lane, kind, into);
-        set_lane::<W>(&mut out, lane, value);
+    let _ = pages.limit();
+    let len = (lanes as usize).min(64 / W) * W;
+    let mut bytes = *into;
+    let mut from = 0;
+    while from < len {
+        let part = Part::new(addr, from, len);
+        load_part::<W>(pages, part, mask, kind, &mut bytes);
+        from += part.len;
     }
-    out
+    bytes
 }
 
 /// Loads the lanes that the mask has, which can be accessed, over those of `into`.

@@ -1,34 +1,35 @@
 //! Stores of lanes.
-ghost use Rattle.std.specs.Prelude.{◌≡◌, ◌+◌, ◌*◌, ◌/◌, ◌%◌, ◌^◌, ◌<◌, ◌≤◌, None, Some, OnOk, OnErr, MatchResult, IsTrue, length};
-ghost use Rattle.machine_state.specs.Memory.{Swap};
+ghost use Rattle.std.specs.Prelude.{ℕ, ◌≡◌, ◌+◌, ◌*◌, ◌/◌, ◌%◌, ◌^◌, ◌<◌, ◌≤◌, None, Some, OnOk, OnErr, MatchResult, IsTrue, length};
+ghost use Rattle.machine_state.specs.Memory.{page_size, Swap};
 ghost use Rattle.gpr_flags.specs.Registers.{is_size};
+ghost use Rattle.guest_pages.specs.Table.{blocked};
 ghost use Rattle.guest_pages.specs.Pages.{table_of, byte_of};
 ghost use Rattle.guest_pages.specs.Changes.{KeepsTable};
 ghost use Rattle.guest_pages.specs.Walk.{walk};
 ghost use Rattle.num_lanes.specs.Lane.{lane_of};
-ghost use Rattle.masked_memory.specs.Lanes.{lane_access, lane_accesses, lane_stored, stored, miss_of};
+ghost use Rattle.masked_memory.specs.Lanes.{lane_accesses, stored, miss_of};
+ghost use Rattle.masked_memory.specs.Parts.{byte_place, HasLane, bytes_stored};
 
-use crate::checking::{check_lanes, place};
-use gpr_flags::has_bit;
+use crate::checking::check_lanes;
+use crate::parts::Part;
 use guest_pages::Pages;
 use machine_state::{Kind, Miss};
-use num_lanes::{Vec64, get_lane};
+use num_lanes::Vec64;
 
-/// Stores one lane, where the mask has it.
-#[tactic(auto, using(crate::proofs::LaneWalks::lane_free), unfolding(crate::specs::Lanes::lane_access, crate::specs::Lanes::lane_stored))]
-fn store_lane<const W: usize>(pages: &mut Pages, addr: u64, mask: u64, lane: usize, from: &Vec64)
+/// Stores the bytes of a part that belong to lanes of the mask. A part that has none isn't asked for.
+fn store_part<const W: usize>(pages: &mut Pages, part: Part, mask: u64, from: &Vec64)
     requires width { IsTrue (is_size W) }
-    requires fits { lane * W + W ≤ 64 }
-    requires ready { walk (table_of pages.old) (lane_access Kind.Write addr W mask lane) ≡ None }
-    ensures byte { (w : Swap) → byte_of pages.new w ≡ lane_stored addr W mask (lane_of W from.now) lane (byte_of pages.old w) }
+    requires some { 0 < part.len }
+    requires one_page { part.addr % page_size + part.len ≤ page_size }
+    requires most { part.from + part.len ≤ 64 }
+    requires ready { HasLane W mask part.from part.len → blocked (table_of pages.old) Kind.Write part.addr part.len ≡ None }
+    ensures byte { (w : Swap) (addr : ℕ) → addr < 2 ^ 64 → part.addr ≡ byte_place addr part.from
+        → byte_of pages.new w ≡ bytes_stored addr W mask part.from (part.from + part.len) from.now (byte_of pages.old w) }
     ensures table { KeepsTable pages.old pages.new }
 {
-    if has_bit(mask, lane as u32) {
-        pages.store(
-            place(addr, W as u8, lane),
-            W as u8,
-            get_lane::<W>(from, lane),
-        );
+    if part.has_lane(W as u8, mask) {
+        let bytes = pages.lend_ready(part.addr, part.len);
+        part.copy::<W>(mask, &from[part.from..part.from + part.len], bytes);
     }
 }
 
@@ -40,8 +41,13 @@ fn store_at<const W: usize>(pages: &mut Pages, addr: u64, lanes: u8, mask: u64, 
     ensures byte { (w : Swap) → byte_of pages.new w ≡ stored addr W mask (lane_of W from.now) lanes (byte_of pages.old w) }
     ensures table { KeepsTable pages.old pages.new }
 {
-    for lane in 0..lanes as usize {
-        store_lane::<W>(pages, addr, mask, lane, from);
+    let _ = pages.limit();
+    let len = lanes as usize * W;
+    let mut at = 0;
+    while at < len {
+        let part = Part::new(addr, at, len);
+        store_part::<W>(pages, part, mask, from);
+        at += part.len;
     }
 }
 
