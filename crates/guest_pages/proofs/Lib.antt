@@ -20,3 +20,4 @@ pub mod Brings
 pub mod Moves
 pub mod Togethers
 pub mod Aways
+pub mod KernelPuts
