@@ -7,7 +7,6 @@ use Rattle.machine_state.specs.Regions.{nature_at, perms_of}
 use Rattle.machine_state.specs.State.{State, initial_extended}
 use Rattle.machine_state.specs.World.{World, default_action, no_alternate, first_descriptors}
 use Rattle.machine_state.specs.declared.kinds.Region.{Region}
-use Rattle.region_map.specs.declared.kinds.Change.{Change}
 use Rattle.region_map.specs.declared.kinds.Change.TheVariants.{Map}
 use Rattle.region_map.specs.Ranges.{changed_regions}
 use Rattle.elf_image.specs.declared.kinds.Segment.{Segment}

@@ -1,9 +1,9 @@
-use Rattle.std.proofs.Common.{◌≡◌, ◌∙◌, ap, sym, subst, List, length, All, [], ◌+◌, ◌≤◌, arith}
+use Rattle.std.proofs.Common.{◌≡◌, ◌∙◌, ap, sym, subst, List, length, All, [], arith}
 use Rattle.std.specs.List.{fold}
 use Rattle.machine_state.specs.declared.kinds.Region.{Region}
 use Rattle.guest_pages.specs.Pages.{byte_of}
 use Rattle.elf_image.specs.declared.kinds.Segment.{Segment}
-use Rattle.elf_image.specs.Segments.{page_sum, stack_pages, IsSegment, AreAscending}
+use Rattle.elf_image.specs.Segments.{page_sum, IsSegment, AreAscending}
 use Rattle.elf_image.proofs.ImageLemmas.{read-image}
 use Rattle.program_load.specs.Load.{with_segment, with_stack, file_byte, first_regions}
 use Rattle.program_load.proofs.LoadLemmas.{stack_room, first_memory-is, regions_value}

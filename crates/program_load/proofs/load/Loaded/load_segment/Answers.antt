@@ -1,10 +1,6 @@
-use Rattle.std.proofs.Common.{◌≡◌, ◌≤◌, ◌+◌, ◌*◌, ◌∙◌, ap, List, length, true, arith}
-use Rattle.machine_state.specs.Memory.{page_size}
-use Rattle.machine_state.specs.declared.kinds.Region.{Region}
-use Rattle.machine_state.specs.Regions.{page_sum}
+use Rattle.std.proofs.Common.{◌≡◌, ◌+◌, ◌∙◌, ap, length, true, arith}
 use Rattle.machine_state.proofs.MemoryLemmas.{length_slice}
 use Rattle.region_map.specs.Calls.{RegionsValue}
-use Rattle.program_load.specs.Load.{with_segment}
 use Rattle.program_load.proofs.PageLemmas.{mapped_writable}
 use Rattle.program_load.proofs.LoadLemmas.{segment_regions, segment_room}
 use Rattle.program_load.proofs.load.Loaded.load_segment.Goals as goal

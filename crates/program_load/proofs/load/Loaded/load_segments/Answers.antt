@@ -7,7 +7,6 @@ use Rattle.program_load.specs.Load.{with_segment}
 use Rattle.program_load.proofs.LoadLemmas.{file_byte-nil, next_room, bytes_more}
 use Rattle.program_load.proofs.load.Loaded.load_segments.Goals as goal
 
-
 pub loop-segment-init : goal.loop-segment-init
 loop-segment-init c = record {
   regions = c.requires.none;

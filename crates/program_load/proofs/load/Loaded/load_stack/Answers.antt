@@ -1,4 +1,4 @@
-use Rattle.std.proofs.Common.{◌+◌, ◌*◌, length, false, arith}
+use Rattle.std.proofs.Common.{length, false, arith}
 use Rattle.program_load.specs.Load.{stack_first, stack_end}
 use Rattle.program_load.proofs.PageLemmas.{mapped_writable}
 use Rattle.program_load.proofs.load.Loaded.load_stack.Goals as goal

@@ -1,6 +1,6 @@
-use Rattle.std.proofs.Common.{◌≡◌, ◌∙◌, ap, None, length}
+use Rattle.std.proofs.Common.{◌∙◌, ap, length}
 use Rattle.guest_pages.specs.Table.{answer_of}
-use Rattle.program_load.proofs.PageLemmas.{ready_open, written_ready}
+use Rattle.program_load.proofs.PageLemmas.{ready_open}
 use Rattle.program_load.proofs.load.Loaded.write.Goals as goal
 
 pub unreachable-requires : goal.unreachable-requires
