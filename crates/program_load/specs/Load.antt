@@ -27,18 +27,18 @@ abbrev pub default_cap : ℕ
 default_cap = 16777216
 
 -- ---- the pages
--- the regions once the pages of a segment are mapped: they are of a file, with the segment's permissions (ELF-64, segment contents)
+-- the regions once the pages of a segment are mapped: they are of a file, with the segment's permissions (ELF-64, segment permissions)
 abbrev pub with_segment : List Region → Segment → List Region
 with_segment regions segment = changed_regions (Map segment.perms true) (first_page segment) (end_page segment) regions
 
--- the stack's pages lie below the one where the stack ends
+-- the stack's pages lie below the one where the stack ends (their number and place are this program's own)
 abbrev pub stack_end : ℕ
 stack_end = stack_top / page_size
 
 abbrev pub stack_first : ℕ
 stack_first = stack_end - stack_pages
 
--- the regions once the stack's pages are mapped: they are of no file, readable and writable (System V ABI, AMD64, 3.3.1)
+-- the regions once the stack's pages are mapped: they are of no file, readable and writable
 abbrev pub with_stack : List Region → List Region
 with_stack regions = changed_regions (Map (record { 0 = 3 }) false) stack_first stack_end regions
 
@@ -102,8 +102,7 @@ first_world program pages left out err = record {
   random = random_after program.seed;
 }
 
--- ---- what the code is given
--- a file's bytes, the image that was read of them, and the bytes of a stack are those that a program is started from
+-- a file, the image that was read of it and a start stack are those of a program
 pub record ArePartsOf (program : Program) (bytes : List ℕ) (image : Image) (start : List ℕ) : Type 0 where
   pub bytes_are : bytes ≡ program.bytes
   pub image_is : image ≡ program.image

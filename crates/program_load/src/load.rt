@@ -185,8 +185,6 @@ pub fn load_pages(
     most: u32,
 ) -> Result<Loaded, AllocError>
     requires image { image_read bytes.now most ≡ Ok image.now }
-    requires least { 512 ≤ most }
-    requires most { most ≤ 262144 }
     requires stack { length stack.now ≤ longest_stack }
     ensures memory { IfOk result (λ loaded. (program : Program) → ArePartsOf program bytes.now image.now stack.now
         → (swap : Swap) → memory_of loaded.pages swap ≡ first_memory program) }

@@ -12,6 +12,9 @@ use Rattle.program_load.proofs.load.load_pages.Goals as goal
 pub new-requires-clause-page : goal.new-requires-clause-page
 new-requires-clause-page c = (read-image c.args.bytes.now c.args.most c.args.image.now c.requires.image).heap
 
+pub new-requires-clause-some : goal.new-requires-clause-some
+new-requires-clause-some c = let few = (read-image c.args.bytes.now c.args.most c.args.image.now c.requires.image).few in omega arith
+
 pub load_segments-requires-clause-each : goal.load_segments-requires-clause-each
 load_segments-requires-clause-each c =
     subst (All (IsSegment (length c.args.bytes.now))) (sym c.as_slice.ensures.value) (read-image c.args.bytes.now c.args.most c.args.image.now c.requires.image).each
