@@ -4,13 +4,12 @@ use Rattle.std.proofs.lemmas.Bool.{cases_lt}
 use Rattle.std.proofs.lemmas.Bool.Decides.{nat_tests}
 use Rattle.std.proofs.lemmas.List.{length-map}
 use Rattle.machine_state.specs.declared.kinds.Region.{Region}
-use Rattle.machine_state.specs.declared.permissions.Perms.{Perms}
 use Rattle.machine_state.specs.Regions.{Nature, end_of, nature_at, page_sum, AreRegions}
 use Rattle.region_map.specs.declared.kinds.Change.{Change}
 use Rattle.region_map.specs.declared.kinds.Change.TheVariants.{Map, Unmap, Protect}
 use Rattle.region_map.specs.Calls.{is_mapped}
 use Rattle.region_map.specs.Lists.{count_below}
-use Rattle.region_map.specs.Ranges.{page_end, is_in, becomes, changed, part, parts, touches, joined, merged, with_region_perms, middle, changed_regions, IsAfter}
+use Rattle.region_map.specs.Ranges.{page_end, is_in, becomes, part, parts, touches, joined, merged, with_region_perms, middle, changed_regions, IsAfter}
 use Rattle.region_map.proofs.Ascents.{Ascend, StartFrom, regions_ascend}
 use Rattle.region_map.proofs.Natures.{in_is}
 use Rattle.region_map.proofs.Tallies.{count_most, regions_count}
