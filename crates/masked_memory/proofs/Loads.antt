@@ -1,5 +1,5 @@
 -- Loads of lanes.
-use Rattle.std.proofs.Common.{◌≡◌, ℕ, zero, suc, Bool, true, false, cond, ◌+◌, ◌-◌, ◌*◌, ◌/◌, ◌%◌, ◌^◌, ◌<◌, ◌≤◌, ◌&&◌, List, [], ◌∷◌, length, get_or, replicate, nat_lt, nat_le, min, refl, ap, sym, ◌∙◌, arith, inl, inr, add-zero, ⊎_elim}
+use Rattle.std.proofs.Common.{◌≡◌, ℕ, zero, suc, true, false, cond, ◌+◌, ◌-◌, ◌*◌, ◌/◌, ◌^◌, ◌<◌, ◌≤◌, ◌&&◌, List, [], ◌∷◌, length, get_or, replicate, nat_lt, min, refl, ap, sym, ◌∙◌, arith, inl, inr, add-zero, ⊎_elim}
 use Rattle.std.proofs.lemmas.Bool.{cases_lt, cases_Bool, lt-ltb, le-ltb}
 use Rattle.std.proofs.Math.ListN.{get_or-eq_default}
 use Rattle.std.proofs.Math.Nat.{suc-mul, mul-le-mul_right}
@@ -8,10 +8,9 @@ use Rattle.std.specs.Simd.Lanes.{chunk, put_chunk, number_l}
 use Rattle.std.proofs.Common.{length-take}
 use Rattle.std.proofs.lemmas.Simd.{get_or-chunk, length-chunk, length-put_chunk, get_or-put_chunk_at, get_or-put_chunk_below, get_or-put_chunk_above}
 use Rattle.std.specs.Prelude.{IsTrue}
-use Rattle.byteorder.specs.Endian.{little_number}
 use Rattle.gpr_flags.specs.Numbers.{has_bit}
 use Rattle.gpr_flags.specs.Registers.{is_size}
-use Rattle.num_lanes.specs.Lane.{lane_of, joined}
+use Rattle.num_lanes.specs.Lane.{lane_of}
 use Rattle.num_lanes.proofs.Bytes.{little-number}
 use Rattle.num_lanes.proofs.LaneLemmas.{lane_fits}
 use Rattle.num_lanes.proofs.Joins.{joined-is, joined-same, whole_lanes}

@@ -1,5 +1,5 @@
 use Rattle.std.proofs.Common.{◌≡◌, ◌+◌, ◌-◌, ◌≤◌, ℕ, List, length, drop, take, ap, refl, arith, ◌∙◌}
-use Rattle.std.specs.Simd.Lanes.{chunk, put_chunk}
+use Rattle.std.specs.Simd.Lanes.{chunk}
 use Rattle.std.proofs.lemmas.Simd.{length-chunk}
 use Rattle.num_lanes.proofs.LaneLemmas.{put_mid-put_chunk}
 use Rattle.guest_pages.specs.Pages.{byte_of}

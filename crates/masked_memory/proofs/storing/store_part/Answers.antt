@@ -1,10 +1,8 @@
-use Rattle.std.proofs.Common.{◌≡◌, ◌+◌, ◌-◌, ◌≤◌, ◌<◌, ◌^◌, ℕ, List, length, drop, take, get_or, cond, ap, refl, sym, arith, ◌∙◌}
-use Rattle.std.specs.Simd.Lanes.{chunk}
-use Rattle.std.proofs.lemmas.Simd.{length-chunk, get_or-chunk}
+use Rattle.std.proofs.Common.{◌≡◌, ◌+◌, ◌-◌, ℕ, List, length, drop, take, get_or, cond, ap, arith, ◌∙◌}
+use Rattle.std.proofs.lemmas.Simd.{get_or-chunk}
 use Rattle.guest_pages.specs.Pages.{byte_of}
-use Rattle.guest_pages.proofs.Carries.{keeps_written, keeps_same}
 use Rattle.machine_state.specs.Memory.{written}
-use Rattle.masked_memory.specs.Parts.{byte_place, bytes_stored, is_in}
+use Rattle.masked_memory.specs.Parts.{byte_place, is_in}
 use Rattle.masked_memory.proofs.Loads.{byte-at}
 use Rattle.masked_memory.proofs.Stores.{part_written, none_stored}
 use Rattle.masked_memory.proofs.storing.store_part.Goals as goal
