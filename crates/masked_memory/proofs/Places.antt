@@ -65,7 +65,7 @@ lowest_one m fits h = ⊎_elim
     (λ (other : m ≡ 0 → ⊥). (bit_at-trailing_zeros w64 m (⊎_elim (λ (q : 0 < m). q) (λ (q : m ≤ 0). absurd (other (omega arith))) (cases_lt 0 m)) fits).1)
     (cases_eq m 0)
 
--- a number that isn't the first lane of a part
+-- no lane further on is the lane itself
 lane_from : (w first t : ℕ) → t ≡ 0 → first + t ≡ first
 lane_from w first t e = omega arith
 
