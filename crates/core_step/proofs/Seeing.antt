@@ -1,5 +1,5 @@
 -- What an instruction sees of memory by its access list, and what it puts there.
-use Rattle.std.proofs.Common.{◌≡◌, ℕ, ◌+◌, ◌-◌, ◌<◌, ◌≤◌, ◌⊎◌, inl, inr, Bool, true, false, cond, ◌||◌, ◌&&◌, nat_le, nat_lt, List, [], ◌∷◌, zero, suc, refl, sym, ap, ◌∙◌, arith, length, get_or, add-zero}
+use Rattle.std.proofs.Common.{◌≡◌, ℕ, ◌+◌, ◌-◌, ◌<◌, ◌≤◌, ◌⊎◌, inl, inr, Bool, true, false, cond, ◌||◌, List, [], ◌∷◌, refl, sym, ap, ◌∙◌, arith, length}
 use Rattle.std.specs.List.{All, list_any}
 use Rattle.std.proofs.lemmas.Bool.{cases_lt}
 use Rattle.std.proofs.lemmas.List.Elements.{All-nil, All-cons, All-head, All-tail, All-weaker}
@@ -11,6 +11,7 @@ use Rattle.machine_state.proofs.MemoryLemmas.{length-bytes_at, below_write, in_w
 use Rattle.core_step.specs.Access.{is_write}
 use Rattle.core_step.specs.Effect.{covers, seen_in, put_by, put_in}
 use Rattle.core_step.specs.Machine.{AgreeOn, SparesByte}
+use Rattle.masked_memory.proofs.Loads.{byte-at}
 use Rattle.vec_step.proofs.Accesses.{written_outside, written_same}
 
 -- ---- what is seen
@@ -76,13 +77,6 @@ agree-seen xs memory =
     )) xs (lie-in xs)
 
 -- ---- what is put
--- a byte of an access, by its place
-byte-at : (byte : ℕ → ℕ) (addr len i : ℕ) → i < len → get_or (bytes_at byte addr len) i 0 ≡ byte (addr + i)
-unfolding bytes_at
-byte-at byte addr zero i h = absurd (omega arith)
-byte-at byte addr (suc len) zero h = rw add-zero refl
-byte-at byte addr (suc len) (suc i) h = let next : addr + suc i ≡ addr + 1 + i = omega arith in rw next (byte-at byte (addr + 1) len i (omega arith))
-
 -- a write has its own bytes
 written_inside : (byte new : ℕ → ℕ) (addr len at : ℕ) → addr ≤ at → at < addr + len → written byte addr (bytes_at new addr len) at ≡ new at
 written_inside byte new addr len at low high =

@@ -1,18 +1,15 @@
 -- Bytes and lanes that can be accessed.
-use Rattle.std.proofs.Common.{◌≡◌, ℕ, zero, suc, ◌+◌, ◌-◌, ◌*◌, ◌/◌, ◌%◌, ◌^◌, ◌<◌, ◌≤◌, Bool, true, false, cond, List, [], ◌∷◌, Option, Some, None, Result, Ok, refl, ap, sym, ◌∙◌, arith, add-zero, ⊎_elim}
-use Rattle.std.specs.Option.{option_map}
-use Rattle.std.proofs.lemmas.Bool.{cases_lt, cases_Bool}
+use Rattle.std.proofs.Common.{◌≡◌, ℕ, zero, suc, ◌+◌, ◌-◌, ◌*◌, ◌/◌, ◌%◌, ◌^◌, ◌<◌, ◌≤◌, Bool, true, false, cond, [], ◌∷◌, Option, Some, None, Ok, refl, ap, sym, ◌∙◌, arith, add-zero, ⊎_elim}
+use Rattle.std.proofs.lemmas.Bool.{cases_lt}
 use Rattle.std.proofs.lemmas.Nat.{div_below}
 use Rattle.std.proofs.Math.Nat.{suc-mul, mul-le-mul_right}
 use Rattle.machine_state.specs.declared.kinds.Kind.{Kind}
 use Rattle.machine_state.specs.declared.kinds.Miss.{Miss}
 use Rattle.machine_state.specs.declared.kinds.Miss.TheVariants.{NonCanonical, Unmapped}
-use Rattle.machine_state.specs.declared.kinds.Access.{Access}
-use Rattle.machine_state.specs.declared.kinds.Stop.{Stop}
 use Rattle.machine_state.specs.Memory.{page_size, miss_at, is_noncanonical}
 use Rattle.machine_state.proofs.MemoryLemmas.{first_miss-zero, allowed_along}
 use Rattle.gpr_flags.specs.Numbers.{has_bit}
-use Rattle.guest_pages.specs.Table.{Mapped, Table, perms_in, away_at, blocked, answer_of}
+use Rattle.guest_pages.specs.Table.{Mapped, Table, perms_in, blocked, answer_of}
 use Rattle.guest_pages.specs.Pages.{PagesValue, table_of}
 use Rattle.guest_pages.specs.Laws.{FitMemory}
 use Rattle.guest_pages.specs.Walk.{walk, stop_or}

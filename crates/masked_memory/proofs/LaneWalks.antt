@@ -1,9 +1,8 @@
 -- The walk along lanes.
-use Rattle.std.proofs.Common.{◌≡◌, ℕ, zero, suc, ◌+◌, ◌-◌, ◌<◌, ◌≤◌, Bool, true, false, List, [], ◌∷◌, ◌++◌, Option, Some, None, refl, ap, sym, ◌∙◌, arith, add-one, inl, inr, cond}
+use Rattle.std.proofs.Common.{◌≡◌, ℕ, zero, suc, ◌+◌, ◌-◌, ◌<◌, Bool, true, [], ◌∷◌, Option, Some, None, refl, ap, sym, ◌∙◌, arith, add-one, inl, inr, cond}
 use Rattle.gpr_flags.specs.Numbers.{has_bit}
 use Rattle.std.proofs.lemmas.Bool.{cases_lt}
 use Rattle.machine_state.specs.declared.kinds.Kind.{Kind}
-use Rattle.machine_state.specs.declared.kinds.Access.{Access}
 use Rattle.machine_state.specs.declared.kinds.Stop.{Stop}
 use Rattle.guest_pages.specs.Table.{Table, blocked}
 use Rattle.guest_pages.specs.Walk.{walk}

@@ -1,5 +1,5 @@
 -- Loads of lanes.
-use Rattle.std.proofs.Common.{◌≡◌, ℕ, zero, suc, Bool, true, false, cond, ◌+◌, ◌-◌, ◌*◌, ◌/◌, ◌%◌, ◌^◌, ◌<◌, ◌≤◌, ◌&&◌, List, [], ◌∷◌, length, get_or, replicate, nat_lt, nat_le, min, refl, ap, sym, ◌∙◌, arith, inl, inr, add-zero, ⊎_elim}
+use Rattle.std.proofs.Common.{◌≡◌, ℕ, zero, suc, true, false, cond, ◌+◌, ◌-◌, ◌*◌, ◌/◌, ◌^◌, ◌<◌, ◌≤◌, ◌&&◌, List, [], ◌∷◌, length, get_or, replicate, nat_lt, min, refl, ap, sym, ◌∙◌, arith, inl, inr, add-zero, ⊎_elim, take, drop}
 use Rattle.std.proofs.lemmas.Bool.{cases_lt, cases_Bool, lt-ltb, le-ltb}
 use Rattle.std.proofs.Math.ListN.{get_or-eq_default}
 use Rattle.std.proofs.Math.Nat.{suc-mul, mul-le-mul_right}
@@ -7,13 +7,13 @@ use Rattle.std.proofs.lemmas.List.{ext_get_or}
 use Rattle.std.specs.Simd.Lanes.{chunk, put_chunk, number_l}
 use Rattle.std.proofs.Common.{length-take}
 use Rattle.std.proofs.lemmas.Simd.{get_or-chunk, length-chunk, length-put_chunk, get_or-put_chunk_at, get_or-put_chunk_below, get_or-put_chunk_above}
+use borrow.Rule.Slice.PartMut.{put_mid}
 use Rattle.std.specs.Prelude.{IsTrue}
-use Rattle.byteorder.specs.Endian.{little_number}
 use Rattle.gpr_flags.specs.Numbers.{has_bit}
 use Rattle.gpr_flags.specs.Registers.{is_size}
-use Rattle.num_lanes.specs.Lane.{lane_of, joined}
+use Rattle.num_lanes.specs.Lane.{lane_of}
 use Rattle.num_lanes.proofs.Bytes.{little-number}
-use Rattle.num_lanes.proofs.LaneLemmas.{lane_fits}
+use Rattle.num_lanes.proofs.LaneLemmas.{lane_fits, put_mid-put_chunk}
 use Rattle.num_lanes.proofs.Joins.{joined-is, joined-same, whole_lanes}
 use Rattle.machine_state.specs.Memory.{bytes_at, number_at}
 use Rattle.machine_state.proofs.MemoryLemmas.{below_write, in_write, above_write, length-bytes_at, bytes_at_listed}
@@ -56,6 +56,19 @@ unfolding bytes_at
 byte-at byte addr zero i h = absurd (omega arith)
 byte-at byte addr (suc len) zero h = rw add-zero refl
 byte-at byte addr (suc len) (suc i) h = let next : addr + suc i ≡ addr + 1 + i = omega arith in rw next (byte-at byte (addr + 1) len i (omega arith))
+
+-- a part of a list, and how many bytes it has
+pub part_is : (from len : ℕ) (old : List ℕ) → take (from + len - from) (drop from old) ≡ chunk from len old
+part_is from len old = let count : from + len - from ≡ len = omega arith in ap (λ (n : ℕ). take n (drop from old)) count
+
+pub part_len : (from len : ℕ) (old : List ℕ) → from + len ≤ length old → length (take (from + len - from) (drop from old)) ≡ len
+part_len from len old within = ap length (part_is from len old) ∙ length-chunk from len old within
+
+-- a part that was written, in its list
+pub part_put : (from len : ℕ) (old part : List ℕ) → from + len ≤ length old → length part ≡ length (take (from + len - from) (drop from old))
+    → put_mid from (from + len - from) old part ≡ put_chunk from old part
+part_put from len old part within same =
+    put_mid-put_chunk from len (from + len - from) old part part (omega arith) (same ∙ part_len from len old within) refl within
 
 -- the bytes of a part, put where they belong, are those of memory
 pub part_loaded : (byte : ℕ → ℕ) (addr w mask from len at : ℕ) (shown part copied old new : List ℕ) → at ≡ byte_place addr from → at + len ≤ 2 ^ 64

@@ -1,7 +1,7 @@
 -- Which bytes of an operand belong to lanes that a mask has, and their addresses.
-use Rattle.std.proofs.Common.{◌≡◌, ℕ, ◌+◌, ◌-◌, ◌*◌, ◌/◌, ◌%◌, ◌^◌, ◌<◌, ◌≤◌, ◌==◌, Bool, true, false, zero, suc, ap, sym, ◌∙◌, arith, ◌⊎◌, inl, inr, ⊎_elim, refl}
+use Rattle.std.proofs.Common.{◌≡◌, ℕ, ◌+◌, ◌-◌, ◌*◌, ◌/◌, ◌%◌, ◌^◌, ◌<◌, ◌≤◌, true, false, zero, suc, ap, sym, ◌∙◌, arith, ◌⊎◌, inl, inr, ⊎_elim, refl}
 use Rattle.std.proofs.lemmas.Bool.{cases_lt, cases_eq, eq-eqb, ne_eqb, eqb-false}
-use Rattle.std.proofs.lemmas.Nat.{pow-add, pow_pos, div_below, le-div, div-mul-add, div-add-mod', mod_below}
+use Rattle.std.proofs.lemmas.Nat.{pow-add, div_below, le-div, div-mul-add, div-add-mod', mod_below}
 use Rattle.std.proofs.lemmas.Nat.Bits.{bit_at-zero, bit_at-trailing_zeros, bit_at_not, bit_at-lt}
 use Rattle.std.proofs.Math.Nat.{div-div-eq-div-mul, div-le_self, div-mul-le_self, lt-div-mul-add, mul-le-mul_right, suc-mul}
 use Rattle.std.specs.Int.{bit_at, bit_not, w64}
@@ -10,7 +10,7 @@ use Rattle.std.specs.Prelude.{IsTrue}
 use Rattle.gpr_flags.specs.Numbers.{has_bit}
 use Rattle.gpr_flags.specs.Registers.{is_size}
 use Rattle.num_lanes.proofs.Joins.{width-cases}
-use Rattle.masked_memory.specs.Parts.{byte_place, is_in, AreAll, HasLane}
+use Rattle.masked_memory.specs.Parts.{byte_place, AreAll, HasLane}
 
 -- ---- addresses
 
@@ -65,7 +65,7 @@ lowest_one m fits h = ⊎_elim
     (λ (other : m ≡ 0 → ⊥). (bit_at-trailing_zeros w64 m (⊎_elim (λ (q : 0 < m). q) (λ (q : m ≤ 0). absurd (other (omega arith))) (cases_lt 0 m)) fits).1)
     (cases_eq m 0)
 
--- a number that isn't the first lane of a part
+-- no lane further on is the lane itself
 lane_from : (w first t : ℕ) → t ≡ 0 → first + t ≡ first
 lane_from w first t e = omega arith
 

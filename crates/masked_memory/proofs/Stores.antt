@@ -1,5 +1,5 @@
 -- Stores of lanes.
-use Rattle.std.proofs.Common.{◌≡◌, ℕ, zero, suc, Bool, true, false, cond, ◌+◌, ◌-◌, ◌*◌, ◌/◌, ◌%◌, ◌^◌, ◌<◌, ◌≤◌, ◌&&◌, List, length, get_or, nat_lt, nat_le, refl, ap, sym, ◌∙◌, arith, ⊎_elim, take_all}
+use Rattle.std.proofs.Common.{◌≡◌, ℕ, zero, suc, true, false, cond, ◌+◌, ◌-◌, ◌*◌, ◌/◌, ◌%◌, ◌^◌, ◌<◌, ◌≤◌, List, length, get_or, refl, ap, sym, ◌∙◌, arith, ⊎_elim, take_all}
 use Rattle.std.proofs.lemmas.Bool.{cases_lt, cases_Bool, lt-ltb, le-ltb}
 use Rattle.std.proofs.lemmas.Simd.{get_or-chunk, length-chunk}
 use Rattle.std.proofs.Math.Nat.{suc-mul, zero-mul}
@@ -12,10 +12,10 @@ use Rattle.num_lanes.proofs.Same.{chunk-bytes}
 use Rattle.num_lanes.proofs.LaneLemmas.{bytes-bits}
 use Rattle.machine_state.specs.Memory.{written, number_bytes}
 use Rattle.machine_state.proofs.MemoryLemmas.{below_write, in_write, above_write, written_below, written_in, written_above}
-use Rattle.masked_memory.specs.Lanes.{lane_place, lane_stored, stored}
-use Rattle.masked_memory.specs.Parts.{byte_place, is_in, AreAll, AreCopied, offset, bytes_stored}
+use Rattle.masked_memory.specs.Lanes.{lane_stored, stored}
+use Rattle.masked_memory.specs.Parts.{byte_place, is_in, offset, bytes_stored}
 use Rattle.masked_memory.proofs.LaneWalks.{stored-more, stored-none}
-use Rattle.masked_memory.proofs.Places.{place_on, lane_at}
+use Rattle.masked_memory.proofs.Places.{lane_at}
 
 -- ---- one address
 

@@ -31,7 +31,8 @@ AreFree table kind addr w mask from len =
 -- bytes, the first of which is byte `from` of an operand, where those that belong to such lanes are these
 pub record AreCopied (w mask from : ℕ) (bytes old new : List ℕ) : Type 0 where
   pub len : length new ≡ length old
-  pub byte : (k : ℕ) → k < length old → slice_index new k ≡ (if is_in w mask (from + k) then slice_index bytes k else slice_index old k)
+  pub byte : (k : ℕ) → k < length old → slice_index new k
+      ≡ (if is_in w mask (from + k) then slice_index bytes k else slice_index old k)
 
 -- an operand, where the bytes from `from` on and below `end` that belong to such lanes are those of memory
 pub record AreLoaded (byte : ℕ → ℕ) (addr w mask from end : ℕ) (old new : List ℕ) : Type 0 where

@@ -1,9 +1,11 @@
 //! The accesses of lanes in memory.
-ghost use Rattle.std.specs.Prelude.{ℕ, ◌≡◌, ◌+◌, ◌*◌, ◌%◌, ◌^◌, ◌<◌, ◌≤◌, true, None, Some, MatchResult};
+ghost use Rattle.std.specs.Prelude.{ℕ, ◌≡◌, ◌+◌, ◌*◌, ◌%◌, ◌^◌, ◌<◌, ◌≤◌, ◌≢◌, true, false, None, Some, MatchResult};
+ghost use Rattle.machine_state.specs.Memory.{page_size};
+ghost use Rattle.guest_pages.specs.Table.{blocked};
 ghost use Rattle.guest_pages.specs.Pages.{table_of};
 ghost use Rattle.guest_pages.specs.Walk.{walk};
 ghost use Rattle.masked_memory.specs.Lanes.{lane_place, lane_access, lane_accesses};
-ghost use Rattle.masked_memory.specs.Parts.{byte_place, AreFree};
+ghost use Rattle.masked_memory.specs.Parts.{byte_place, HasLane, AreFree};
 
 use crate::parts::Part;
 use gpr_flags::has_bit;
@@ -70,8 +72,10 @@ fn is_ready(pages: &Pages, part: Part, width: u8, mask: u64, kind: Kind) -> bool
     requires width { 0 < width }
     requires some { 0 < part.len }
     requires most { part.from + part.len ≤ 64 * width }
-    ensures { result ≡ true → (addr : ℕ) → part.addr ≡ byte_place addr part.from
+    ensures ready { result ≡ true → (addr : ℕ) → part.addr ≡ byte_place addr part.from
         → AreFree (table_of pages.now) kind addr width mask part.from part.len }
+    ensures lane { result ≡ false → HasLane width mask part.from part.len }
+    ensures blocked { result ≡ false → blocked (table_of pages.now) kind part.addr part.len ≢ None }
 {
     if !part.has_lane(width, mask) {
         return true;
@@ -82,11 +86,13 @@ fn is_ready(pages: &Pages, part: Part, width: u8, mask: u64, kind: Kind) -> bool
     }
 }
 
-/// Whether the parts that have bytes of lanes of the mask can be accessed now, each asked for once. Then these lanes can be too.
+/// Whether the lanes of the mask can be accessed now. Each part that has a byte of one of them is asked for once.
 fn are_ready(pages: &Pages, addr: u64, width: u8, lanes: u8, mask: u64, kind: Kind) -> bool
     requires { lanes ≤ 64 }
-    ensures { result ≡ true → walk (table_of pages.now) (lane_accesses kind addr width mask lanes) ≡ None }
+    ensures ready { result ≡ true → walk (table_of pages.now) (lane_accesses kind addr width mask lanes) ≡ None }
+    ensures blocked { result ≡ false → walk (table_of pages.now) (lane_accesses kind addr width mask lanes) ≢ None }
 {
+    // Pages lie in the lower half, so no lane that can be accessed goes past the last address.
     let _ = pages.limit();
     let len = lanes as usize * width as usize;
     let mut from = 0;
@@ -100,8 +106,7 @@ fn are_ready(pages: &Pages, addr: u64, width: u8, lanes: u8, mask: u64, kind: Ki
     true
 }
 
-/// Walks along the accesses of the lanes that the mask has, from lane 0 up. Where the parts of the operand can be accessed, so
-/// can they.
+/// Walks along the accesses of the lanes that the mask has, from lane 0 up: lane by lane only where one of them can't be made.
 pub fn check_lanes(
     pages: &Pages,
     addr: u64,

@@ -47,6 +47,7 @@ fn load_at<const W: usize>(
     requires ready { walk (table_of pages.now) (lane_accesses kind addr W mask lanes) ≡ None }
     ensures { (w : Swap) → result ≡ loaded (byte_of pages.now w) addr W lanes mask (lane_of W into.now) }
 {
+    // Pages lie in the lower half, so no lane that can be accessed goes past the last address.
     let _ = pages.limit();
     let len = (lanes as usize).min(64 / W) * W;
     let mut bytes = *into;

@@ -41,6 +41,7 @@ fn store_at<const W: usize>(pages: &mut Pages, addr: u64, lanes: u8, mask: u64, 
     ensures byte { (w : Swap) → byte_of pages.new w ≡ stored addr W mask (lane_of W from.now) lanes (byte_of pages.old w) }
     ensures table { KeepsTable pages.old pages.new }
 {
+    // Pages lie in the lower half, so no lane that can be accessed goes past the last address.
     let _ = pages.limit();
     let len = lanes as usize * W;
     let mut at = 0;

@@ -1,4 +1,4 @@
-use Rattle.std.proofs.Common.{◌≡◌, ◌-◌, ◌*◌, ◌≤◌}
+use Rattle.std.proofs.Common.{◌-◌, ◌*◌}
 use Rattle.guest_pages.specs.Pages.{table_of}
 use Rattle.masked_memory.specs.Parts.{AreFree}
 use Rattle.masked_memory.proofs.checking.are_ready.Given as goal

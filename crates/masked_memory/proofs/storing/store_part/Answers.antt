@@ -1,11 +1,9 @@
-use Rattle.std.proofs.Common.{◌≡◌, ◌+◌, ◌-◌, ◌≤◌, ◌<◌, ◌^◌, ℕ, List, length, drop, take, get_or, cond, ap, refl, sym, arith, ◌∙◌}
-use Rattle.std.specs.Simd.Lanes.{chunk}
-use Rattle.std.proofs.lemmas.Simd.{length-chunk, get_or-chunk}
+use Rattle.std.proofs.Common.{◌≡◌, ◌+◌, ◌-◌, ℕ, List, length, drop, take, get_or, cond, ap, arith, ◌∙◌}
+use Rattle.std.proofs.lemmas.Simd.{get_or-chunk}
 use Rattle.guest_pages.specs.Pages.{byte_of}
-use Rattle.guest_pages.proofs.Carries.{keeps_written, keeps_same}
 use Rattle.machine_state.specs.Memory.{written}
-use Rattle.masked_memory.specs.Parts.{byte_place, bytes_stored, is_in}
-use Rattle.masked_memory.proofs.Loads.{byte-at}
+use Rattle.masked_memory.specs.Parts.{byte_place, is_in}
+use Rattle.masked_memory.proofs.Loads.{byte-at, part_is}
 use Rattle.masked_memory.proofs.Stores.{part_written, none_stored}
 use Rattle.masked_memory.proofs.storing.store_part.Goals as goal
 
@@ -16,7 +14,6 @@ returns-then-has_lane-clause-byte g c s addr fits is =
     let bytes : List ℕ = c.args.from.now in
     let byte : ℕ → ℕ = byte_of c.args.pages.now s in
     let held : List ℕ = c.lend_ready-bytes.result.now in
-    let count : from + len - from ≡ len = omega arith in
     let held_len : length held ≡ len = c.lend_ready-bytes.ensures.len in
     let new_len : length c.copy.new.to ≡ len = c.copy.ensures.copied.len ∙ held_len in
     let one_page = c.requires.one_page in
@@ -25,7 +22,7 @@ returns-then-has_lane-clause-byte g c s addr fits is =
     ∙ part_written addr g.row.W c.args.mask from len bytes c.copy.new.to byte fits (omega arith) (omega arith) new_len
     (λ j h.
     let source : get_or (take (from + len - from) (drop from bytes)) j 0 ≡ get_or bytes (from + j) 0 =
-    ap (λ (n : ℕ). get_or (take n (drop from bytes)) j 0) count ∙ get_or-chunk from len bytes j 0 h in
+    ap (λ (xs : List ℕ). get_or xs j 0) (part_is from len bytes) ∙ get_or-chunk from len bytes j 0 h in
     let memory : get_or held j 0 ≡ byte (byte_place addr from + j) =
     ap (λ (xs : List ℕ). get_or xs j 0) (c.lend_ready-bytes.ensures.bytes.bytes s) ∙ byte-at byte c.args.part.addr len j h ∙ ap (λ (at : ℕ). byte (at + j)) is in
     c.copy.ensures.copied.byte j (omega arith) ∙ (λ i. cond (is_in g.row.W c.args.mask (from + j)) (source i) (memory i)))

@@ -1,10 +1,6 @@
-use Rattle.std.proofs.Common.{◌≡◌, ◌+◌, ◌<◌, ◌≤◌, ℕ, length, if◌then◌else◌, get_or}
-use Rattle.masked_memory.specs.Parts.{is_in}
+use Rattle.std.proofs.Common.{◌*◌}
+use Rattle.masked_memory.proofs.Copies.{AreCopiedTo}
 use Rattle.masked_memory.proofs.parts.Part.copy_lanes.Given as goal
 
-abbrev pub invariant-loop-k : goal.invariant-loop-k
-invariant-loop-k g l = record {
-  len : length l.to ≡ length l.initial.to;
-  done : (k : ℕ) → k < l.k → get_or l.to k 0 ≡ (if is_in g.row.W l.mask (l.self.from + k) then get_or l.from k 0 else get_or l.initial.to k 0);
-  rest : (k : ℕ) → l.k ≤ k → get_or l.to k 0 ≡ get_or l.initial.to k 0;
-}
+abbrev pub invariant-loop-lane : goal.invariant-loop-lane
+invariant-loop-lane g l = AreCopiedTo g.row.W l.mask l.fn.self.from (l.lane * g.row.W) l.from l.initial.to l.to

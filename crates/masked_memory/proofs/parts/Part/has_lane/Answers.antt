@@ -1,4 +1,3 @@
-use Rattle.std.proofs.Common.{arith}
 use Rattle.std.proofs.lemmas.Bool.{leb-true, leb-false}
 use Rattle.masked_memory.proofs.Places.{lane_found, lanes_out}
 use Rattle.masked_memory.proofs.parts.Part.has_lane.Goals as goal
