@@ -551,7 +551,7 @@ fn a_break_can_lie_anywhere(rt: HostRuntime) -> Result<(), Fail> {
 
 #[test]
 fn mapped_pages_are_zeros(rt: HostRuntime) -> Result<(), Fail> {
-    let mut pages = Pages::new(rt.alloc(), 8, 16)?;
+    let mut pages = Pages::new(rt.alloc(), 16, 16)?;
     let mut regions = Regions::new(0x20000, 0x20000);
     expect_answers(
         &rt,
