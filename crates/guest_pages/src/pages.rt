@@ -540,5 +540,6 @@ fn list_of(slot: &Option<Entry>, buckets: usize) -> usize
 }
 
 mod bringing;
+mod kernel;
 #[cfg(test)]
 mod tests;
