@@ -1,6 +1,5 @@
 //! Paths in memory.
 ghost use Rattle.std.specs.Prelude.{◌≡◌, ◌≤◌, ◌<◌, ◌+◌, ◌-◌, ◌%◌, ◌++◌, length, min};
-ghost use Rattle.std.specs.Vec.{array_vec_len};
 ghost use Rattle.machine_state.specs.Memory.{page_size};
 ghost use Rattle.guest_transfers.specs.Moves.{ReadsPath};
 ghost use Rattle.guest_transfers.specs.Paths.{end_of, path_max};
