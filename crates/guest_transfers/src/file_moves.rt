@@ -1,10 +1,10 @@
 //! Transfers between memory and files.
-ghost use Rattle.std.specs.Prelude.{◌≡◌, ◌≤◌, ◌<◌, ◌+◌, ◌%◌, ◌^◌, true, None, length};
+ghost use Rattle.std.specs.Prelude.{◌≡◌, ◌≤◌, ◌<◌, ◌+◌, ◌%◌, ◌^◌, true, None, length, take};
 ghost use Rattle.machine_state.specs.Memory.{Swap};
 ghost use Rattle.guest_pages.specs.Table.{blocked, perms_in};
 ghost use Rattle.guest_pages.specs.Pages.{table_of, byte_of};
 ghost use Rattle.guest_pages.specs.Changes.{IsWritten};
-ghost use Rattle.guest_files.specs.Content.{count_below, filled};
+ghost use Rattle.guest_files.specs.Content.{count_below};
 ghost use Rattle.guest_files.specs.Moves.{read_piece, written_at};
 ghost use Rattle.guest_transfers.specs.Pieces.{are_allowed, asked, most_asked, single};
 ghost use Rattle.guest_transfers.specs.Moves.{blocked_access, IsMappedRange, Copies, Reads, ReadsFile, Stops, Writes, WritesFile};
@@ -14,16 +14,18 @@ use crate::pieces::{away_slot, part, part_of, total_len};
 use guest_files::Files;
 use guest_pages::{Kind, Pages};
 
-// Reads a file from an offset on, also where that lies behind the last offset, and answers how many bytes came.
-fn read_front(files: &Files, fd: u32, at: u64, into: &mut [u8]) -> usize
-    requires { ReadsFile files.now fd }
-    ensures count { result ≡ length (read_piece files.now fd at (length into.old)) }
-    ensures bytes { into.new ≡ filled (read_piece files.now fd at (length into.old)) into.old }
+// Reads at most so many bytes of a file, from an offset on, to the front of a buffer, and answers how many came. No file has
+// bytes behind the cap.
+fn read_front(files: &Files, fd: u32, at: u64, into: &mut [u8], most: usize) -> usize
+    requires file { ReadsFile files.now fd }
+    requires room { most ≤ length into.old }
+    ensures count { result ≡ length (read_piece files.now fd at most) }
+    ensures bytes { take result into.new ≡ read_piece files.now fd at most }
 {
     if at >= u64::from(files.cap()) {
         return 0;
     }
-    match files.read_at(fd, at, into) {
+    match files.read_at(fd, at, &mut into[..most]) {
         Ok(count) => count,
         Err(_) => unreachable!(),
     }
@@ -38,7 +40,7 @@ fn read_part(pages: &mut Pages, addr: u64, part: usize, files: &Files, fd: u32, 
     ensures written { IsWritten pages.old pages.new addr (read_piece files.now fd at part) }
 {
     let mut buffer = [0; 4096];
-    let count = read_front(files, fd, at, &mut buffer[..part]);
+    let count = read_front(files, fd, at, &mut buffer, part);
     match pages.write(addr, &buffer[..count]) {
         Ok(()) => count,
         Err(_) => unreachable!(),
@@ -83,6 +85,7 @@ fn write_front(files: &mut Files, fd: u32, at: u64, bytes: &[u8]) -> usize
     requires { WritesFile files.old fd }
     ensures count { result ≡ count_below files.old.cap at (length bytes.now) }
     ensures written { files.new ≡ written_at files.old fd at bytes.now }
+    ensures none { 0 < length bytes.now → result ≡ 0 → files.new ≡ files.old }
 {
     if at >= u64::from(files.cap()) {
         return 0;
@@ -147,7 +150,7 @@ pub fn copy_file(
     let mut done = from;
     while done < count {
         let next = part_of(&[Piece { addr, len: count }], done, Kind::Write);
-        let n = read_front(files, fd, at + done, &mut buffer[..next.len as usize]);
+        let n = read_front(files, fd, at + done, &mut buffer, next.len as usize);
         if n == 0 {
             return Stop::Whole(done);
         }
