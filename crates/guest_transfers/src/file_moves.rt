@@ -1,7 +1,7 @@
 //! Transfers between memory and files.
-ghost use Rattle.std.specs.Prelude.{◌≡◌, ◌≤◌, ◌<◌, ◌+◌, ◌%◌, ◌^◌, true, None, length, take};
-ghost use Rattle.machine_state.specs.Memory.{Swap};
-ghost use Rattle.guest_pages.specs.Table.{blocked, perms_in};
+ghost use Rattle.std.specs.Prelude.{◌≡◌, ◌≤◌, ◌<◌, ◌+◌, ◌%◌, ◌^◌, true, None, Some, length, take, IfErr, IfOk, IsSome, OnErr, ◌/◌};
+ghost use Rattle.machine_state.specs.Memory.{page_size, Swap};
+ghost use Rattle.guest_pages.specs.Table.{away_at, blocked, perms_in};
 ghost use Rattle.guest_pages.specs.Pages.{table_of, byte_of};
 ghost use Rattle.guest_pages.specs.Changes.{IsWritten};
 ghost use Rattle.guest_files.specs.Content.{count_below};
@@ -12,7 +12,7 @@ ghost use Rattle.guest_transfers.specs.Moves.{blocked_access, IsMappedRange, Cop
 use crate::kinds::{Piece, Stop};
 use crate::pieces::{away_slot, part, part_of, total_len};
 use guest_files::Files;
-use guest_pages::{Kind, Pages};
+use guest_pages::{Kind, Miss, Pages};
 
 // Reads at most so many bytes of a file, from an offset on, to the front of a buffer, and answers how many came. No file has
 // bytes behind the cap.
@@ -128,6 +128,37 @@ pub fn write_file(
     Stop::Whole(done)
 }
 
+// Copies a file from an offset on to a mapped page, and answers how many bytes came. Where none does, the page isn't asked for.
+fn copy_part(
+    pages: &mut Pages,
+    addr: u64,
+    part: usize,
+    files: &Files,
+    fd: u32,
+    at: u64,
+) -> Result<usize, Miss>
+    requires one_page { addr % page_size + part ≤ page_size }
+    requires mapped { IsSome (table_of pages.old (addr / page_size)) }
+    requires file { ReadsFile files.now fd }
+    ensures count { IfOk result (λ n. n ≡ length (read_piece files.now fd at part)) }
+    ensures written { IfOk result (λ n. 0 < n
+        → IsWritten pages.old pages.new addr (read_piece files.now fd at part)) }
+    ensures there { IfOk result (λ n. 0 < n → away_at (table_of pages.old (addr / page_size)) ≡ None) }
+    ensures none { IfOk result (λ n. n ≡ 0 → pages.new ≡ pages.old) }
+    ensures away { IfErr result (λ miss. away_at (table_of pages.old (addr / page_size)) ≡ Some miss) }
+    ensures err { OnErr result (pages.new ≡ pages.old) }
+{
+    let mut buffer = [0; 4096];
+    let count = read_front(files, fd, at, &mut buffer, part);
+    if count == 0 {
+        return Ok(0);
+    }
+    match pages.put(addr, &buffer[..count]) {
+        Ok(()) => Ok(count),
+        Err(miss) => Err(miss),
+    }
+}
+
 /// Copies a file from an offset on to mapped pages, whatever their permissions.
 pub fn copy_file(
     pages: &mut Pages,
@@ -145,20 +176,15 @@ pub fn copy_file(
     ensures reads { Reads pages.old pages.new (single addr count) from files.now fd at result }
     ensures stops { Copies (table_of pages.old) addr count from result }
 {
-    let mut buffer = [0; 4096];
     let _ = pages.limit();
     let mut done = from;
     while done < count {
         let next = part_of(&[Piece { addr, len: count }], done, Kind::Write);
-        let n = read_front(files, fd, at + done, &mut buffer, next.len as usize);
-        if n == 0 {
-            return Stop::Whole(done);
-        }
-        match pages.put(next.addr, &buffer[..n]) {
-            Ok(()) => {}
+        match copy_part(pages, next.addr, next.len as usize, files, fd, at + done) {
+            Ok(0) => return Stop::Whole(done),
+            Ok(n) => done += n as u64,
             Err(miss) => return Stop::Away(done, away_slot(miss)),
         }
-        done += n as u64;
     }
     Stop::Whole(done)
 }
