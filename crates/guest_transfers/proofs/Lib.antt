@@ -1,3 +1,4 @@
 pub mod Along
 pub mod PartLemmas
 pub mod FileLemmas
+pub mod DrawLemmas
