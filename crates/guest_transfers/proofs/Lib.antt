@@ -2,3 +2,4 @@ pub mod Along
 pub mod PartLemmas
 pub mod FileLemmas
 pub mod DrawLemmas
+pub mod PathLemmas

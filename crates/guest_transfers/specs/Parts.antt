@@ -14,6 +14,13 @@ IsAway (Unmapped addr) = ⊥
 IsAway (Denied addr) = ⊥
 IsAway (NonCanonical addr) = ⊥
 
+-- an access isn't allowed
+abbrev pub IsDenied : Miss → Type 0
+IsDenied (Away slot) = ⊥
+IsDenied (Unmapped addr) = ⊤
+IsDenied (Denied addr) = ⊤
+IsDenied (NonCanonical addr) = ⊤
+
 -- pieces end in the lower half of the address space
 abbrev pub AreLow : List Piece → Type 0
 AreLow pieces = All (λ piece. 0 < piece.len → piece.addr + piece.len ≤ 2 ^ 47) pieces
