@@ -3,3 +3,4 @@ pub mod PartLemmas
 pub mod FileLemmas
 pub mod DrawLemmas
 pub mod PathLemmas
+pub mod BufferLemmas
