@@ -383,3 +383,11 @@ denied_first table kind addr len miss some one_page is denied = of (miss_at (per
         let away = away_at-away (table (addr / page_size)) miss (sym (blocked_within table kind addr len some one_page none) ∙ is) in
         absurd (never miss away.0 away.1 denied)
     of (Some first) e = (first, e)
+
+-- each byte that is allowed is on a mapped page
+pub mapped_range : (table : Table) (kind : Kind) (addr len : ℕ) → first_miss (perms_in table) kind addr len ≡ None → IsMappedRange table addr len
+mapped_range table kind addr len none at from before =
+    let place : addr + (at - addr) ≡ at = omega arith in
+    let here : first_miss (perms_in table) kind at 1 ≡ None = rw place at (first_miss_part (perms_in table) kind addr len (at - addr) 1 (omega arith) none) in
+    let free = (or_else_none _ _ (sym (first_miss-suc (perms_in table) kind at 0) ∙ here)).0 in
+    mapped_of (table (at / page_size)) (allowed_case (is_noncanonical at) (perms_in table (at / page_size)) kind at free)

@@ -3,7 +3,7 @@
 /// A transfer between pieces and a stream or a file: address and length of each piece; the page that is away at first, by its
 /// number, or 0; how many bytes the source or the file has, or the most that the file may have; how many bytes have moved when
 /// that page is asked for; and how many move in all, where they aren't put.
-pub type Case = (&'static [(u64, u64)], u64, usize, Option<u64>, u64);
+pub type Case = (&'static [(u64, u64)], u64, u32, Option<u64>, u64);
 
 static MOVES: [Case; 15] = [
     (&[], 0, 9, None, 0),
