@@ -5,6 +5,7 @@ pub mod WalkLemmas
 pub mod Takes
 pub mod Puts
 pub mod Writes
+pub mod KernelPuts
 pub mod Shows
 pub mod Counts
 pub mod Orders
