@@ -8,11 +8,11 @@ use Rattle.xemu_top.specs.declared.ends.End.{End}
 use Rattle.xemu_top.specs.declared.ends.End.TheVariants.{Exit, Killed, Budget, Words, Image, Host, Memory}
 use Rattle.xemu_top.specs.declared.loading.Loaded.{Loaded}
 use Rattle.xemu_top.specs.declared.loading.Loaded.TheVariants.{Whole, Long, Failed}
-use Rattle.xemu_top.specs.Outside.{files_of}
+use Rattle.guest_run.specs.Outside.{files_of}
 use Rattle.xemu_top.specs.Command.{calls_made, image_fits}
-use Rattle.xemu_top.specs.Tally.{Tally, tally, count_of, IsCounted, NoneRose}
+use Rattle.guest_run.specs.Tally.{Tally, tally, count_of, IsCounted, NoneRose}
 use Rattle.xemu_top.specs.Loading.{IsLoaded, LoadCaused}
-use Rattle.xemu_top.specs.Following.{Course, SinkPair}
+use Rattle.guest_run.specs.Following.{Course, SinkPair}
 use Rattle.xemu_top.specs.Headline.{EndsLoad, IsImage, failed_after, failed_call, is_refusal, is_run_or_memory}
 
 -- what counts among some calls counts among more

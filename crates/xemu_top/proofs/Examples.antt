@@ -33,11 +33,11 @@ use Rattle.core_step.specs.Alignment.{is_misaligned}
 use Rattle.core_step.specs.Act.{performed_as, performed, act}
 use Rattle.xemu_top.specs.declared.ends.End.{End}
 use Rattle.xemu_top.specs.declared.ends.End.TheVariants.{Exit, Killed, Budget, Image}
-use Rattle.xemu_top.specs.Call.{put_bytes, put_answer, called, calls_in_call}
-use Rattle.xemu_top.specs.Step.{step, calls_in_step}
-use Rattle.xemu_top.specs.Run.{run}
-use Rattle.xemu_top.specs.Outside.{Outside}
-use Rattle.xemu_top.specs.Trail.{Piece, run_trail}
+use Rattle.guest_run.specs.Call.{put_bytes, put_answer, called, calls_in_call}
+use Rattle.guest_run.specs.Step.{step, calls_in_step}
+use Rattle.guest_run.specs.Run.{run}
+use Rattle.guest_run.specs.Outside.{Outside}
+use Rattle.guest_run.specs.Trail.{Piece, run_trail}
 use Rattle.xemu_top.specs.Command.{Outcome, command, trail, image_fits, header_fits, sizes_fit, entry_of, image_memory, first_state, first_world, status_of}
 
 -- the sample program: a header, eight instructions from byte 120 on, and `hello` with a line feed

@@ -9,28 +9,33 @@ use Rattle.host_edge.specs.Files.{Held}
 use Rattle.core_step.specs.declared.machine.Machine.{Machine}
 use Rattle.xemu_top.specs.declared.ends.End.{End}
 use Rattle.xemu_top.specs.declared.ends.Ended.{Ended}
-use Rattle.xemu_top.specs.declared.ends.RunEnd.{RunEnd}
-use Rattle.xemu_top.specs.Run.{run}
-use Rattle.xemu_top.specs.Outside.{Files, Outside, IsOutside, Leaves}
-use Rattle.xemu_top.specs.Trail.{FailsOn}
-use Rattle.xemu_top.specs.Command.{first_world, first_state, image_fits, end_of, command, trail, on_file, on_image, file_trail, image_trail, load_piece, words_fit, path_word, no_command, no_image}
-use Rattle.xemu_top.specs.Following.{EachSwap, HasState, Runs, StandsFor, is_stopped, run_end, end_from}
-use Rattle.xemu_top.specs.Headline.{Meets, MeetsWork, is_own, finished, machine_after}
-use Rattle.xemu_top.proofs.RunLemmas.{fails-later}
+use Rattle.guest_run.specs.declared.ends.RunEnd.{RunEnd}
+use Rattle.guest_run.specs.Run.{run}
+use Rattle.guest_run.specs.Outside.{Files, Outside, IsOutside, Leaves}
+use Rattle.guest_run.specs.Trail.{FailsOn}
+use Rattle.xemu_top.specs.Command.{first_world, first_state, image_fits, end_of, command, trail, on_file, on_image, file_trail, image_trail, load_piece, words_fit, path_word, no_command, no_image, image_base}
+use Rattle.guest_run.specs.Following.{EachSwap, HasState, Runs, is_stopped, run_end}
+use Rattle.guest_run.specs.Guests.{GuestRuns, GuestStandsFor}
+use Rattle.guest_run.specs.GuestValue.{GuestValue}
+use Rattle.xemu_top.specs.Headline.{Meets, MeetsWork, is_own, end_from, finished, machine_after}
+use Rattle.guest_run.proofs.RunLemmas.{fails-later}
+use Rattle.guest_run.proofs.GuestLemmas.{runs-machine}
 
--- the first machine stands for the first world
-pub first_stands : (held : Option Held) (left out err : Option (List ℕ)) (swap : Swap) (machine : Machine) (bytes : List ℕ) (on : Outside)
-    → HasState swap machine (first_state bytes) → IsOutside held left out err on
-    → StandsFor (IsOutside held left out err) swap machine on.files (first_world bytes on)
+-- the first guest stands for the first world
+pub first_stands : (held : Option Held) (left out err : Option (List ℕ)) (swap : Swap) (guest : GuestValue) (bytes : List ℕ) (on : Outside)
+    → HasState swap guest.machine (first_state bytes) → guest.regions ≡ record { regions = []; heap = image_base; at = image_base }
+    → IsOutside held left out err on → GuestStandsFor (IsOutside held left out err) swap guest on.files (first_world bytes on)
 unfolding first_world
-first_stands held left out err swap machine bytes on state is = record { state = state; descriptors = refl; outside_is = is }
+first_stands held left out err swap guest bytes on state regions is =
+    record { machine = record { state = state; descriptors = refl; outside_is = is }; regions = regions }
 
--- a run from the first machine is a run of the whole budget
-pub runs-first : (Stands : Outside → Type 0) (swap : Swap) (machine : Machine) (files : Files) (from : World) (budget steps : ℕ) (result : RunEnd)
-    → steps ≡ 0 → Runs Stands swap machine files from (budget - steps) result → Runs Stands swap machine files from budget result
-runs-first Stands swap machine files from budget steps result none runs =
-    let all : budget - steps ≡ budget = omega arith in
-    subst (λ (n : ℕ). Runs Stands swap machine files from n result) all runs
+-- a run from the first guest is a run of the whole budget
+pub runs-first : (Stands : Outside → Type 0) (swap : Swap) (old new : GuestValue) (files : Files) (from : World) (budget : ℕ) (result : RunEnd)
+    → old.end ≡ None → old.machine.steps ≡ 0 → GuestRuns Stands swap old new files from (budget - old.machine.steps) result
+    → Runs Stands swap new.machine files from budget result
+runs-first Stands swap old new files from budget result goes none runs =
+    let all : budget - old.machine.steps ≡ budget = omega (arith, none) in
+    runs-machine Stands swap old new files from budget result goes (subst (λ (n : ℕ). GuestRuns Stands swap old new files from n result) all runs)
 
 -- the end of a run and of its command
 end_from-run_end : (end : Option GuestEnd) → end_from (run_end end) ≡ end_of end

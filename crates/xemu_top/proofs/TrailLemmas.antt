@@ -1,35 +1,10 @@
 -- The pieces of a trail hang together.
-use Rattle.std.proofs.Common.{◌≡◌, ℕ, zero, suc, List, [], ◌∷◌, Bool, true, false, Option, Some, None, refl, subst}
-use Rattle.machine_state.specs.declared.kinds.GuestEnd.{GuestEnd}
-use Rattle.machine_state.specs.World.{World}
-use Rattle.xemu_top.specs.Step.{step}
-use Rattle.xemu_top.specs.Run.{run}
-use Rattle.xemu_top.specs.Outside.{Files, Outside, outside}
-use Rattle.xemu_top.specs.Trail.{HangTogether, Piece, run_trail}
+use Rattle.std.proofs.Common.{◌≡◌, ℕ, List, [], Bool, true, false, Option, Some, None, refl, subst}
+use Rattle.guest_run.specs.Run.{run}
+use Rattle.guest_run.specs.Outside.{Outside, outside}
+use Rattle.guest_run.specs.Trail.{HangTogether, run_trail}
 use Rattle.xemu_top.specs.Command.{command, on_file, on_image, trail, file_trail, image_trail, load_piece, image_fits, first_world, words_fit, path_word}
-use Rattle.xemu_top.proofs.RunLemmas.{run-goes_on, run-ends, run-none, run_trail-goes_on, run_trail-ends, run_trail-none, step_piece}
-
-hang-none : (on : Outside) → HangTogether on [] on
-unfolding HangTogether
-hang-none on = refl
-
-hang-more : (from : Outside) (piece : Piece) (rest : List Piece) (to : Outside) → piece.before ≡ from → HangTogether piece.after rest to
-    → HangTogether from (piece ∷ rest) to
-unfolding HangTogether
-hang-more from piece rest to first more = (first, more)
-
--- the steps of a run
-run_hangs : (files : Files) (w : World) (steps : ℕ) → HangTogether (outside files w) (run_trail files w steps) (outside files (run w steps).world)
-run_hangs files w zero = rw (run_trail-none files w, run-none w) (hang-none (outside files w))
-run_hangs files w (suc steps) = by_end (step w).end refl (run_hangs files (step w).world steps)
-  where
-    by_end : (end : Option GuestEnd) → (step w).end ≡ end
-        → HangTogether (outside files (step w).world) (run_trail files (step w).world steps) (outside files (run (step w).world steps).world)
-        → HangTogether (outside files w) (run_trail files w (suc steps)) (outside files (run w (suc steps)).world)
-    by_end None is later = rw (run_trail-goes_on files w steps is, run-goes_on w steps is)
-        (hang-more (outside files w) (step_piece files w) _ _ refl later)
-    by_end (Some end) is later = rw (run_trail-ends files w steps end is, run-ends w steps end is)
-        (hang-more (outside files w) (step_piece files w) [] _ refl (hang-none _))
+use Rattle.guest_run.proofs.TrailLemmas.{hang-none, hang-more, run_hangs}
 
 first_world-outside : (bytes : List ℕ) (on : Outside) → outside on.files (first_world bytes on) ≡ on
 unfolding first_world

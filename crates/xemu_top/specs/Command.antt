@@ -1,6 +1,6 @@
 -- The command: from the words, the host's files and the input to the end, the output and the machine that is left, and the trail of
 -- its work.
-use Rattle.std.specs.Prelude.{ℕ, ◌+◌, ◌-◌, ◌*◌, ◌/◌, ◌==◌, ◌≤◌, Bool, true, not, if◌then◌else◌, List, [], ◌∷◌, length, nat_lt, nat_le, nat_eq, ◌&&◌, Option, Some, None, slice_index, slice_index_or, take, drop, replicate}
+use Rattle.std.specs.Prelude.{ℕ, ◌+◌, ◌-◌, ◌/◌, ◌==◌, ◌≤◌, Bool, not, if◌then◌else◌, List, [], ◌∷◌, length, nat_lt, nat_le, nat_eq, ◌&&◌, Option, Some, None, slice_index, slice_index_or, take, drop, replicate}
 use Rattle.std.specs.Cmp.Lexicographic.{pointwise}
 use Rattle.std.specs.List.{list_any, starts_with}
 use Rattle.byteorder.specs.Endian.{little_number}
@@ -10,14 +10,13 @@ use Rattle.host_edge.specs.declared.outside.HostCall.TheVariants.{Load, PutOut, 
 use Rattle.machine_state.specs.Memory.{page_size, Memory}
 use Rattle.gpr_flags.specs.Flags.{no_flags}
 use Rattle.machine_state.specs.State.{State, initial_extended}
-use Rattle.machine_state.specs.declared.kinds.Region.{Region}
 use Rattle.machine_state.specs.World.{World, default_action, no_alternate, first_descriptors}
 use Rattle.xemu_top.specs.declared.ends.End.{End}
 use Rattle.xemu_top.specs.declared.ends.End.TheVariants.{Exit, Killed, Budget, Words, Image, Host, Memory as NoMemory}
-use Rattle.xemu_top.specs.Call.{Ran}
-use Rattle.xemu_top.specs.Run.{run}
-use Rattle.xemu_top.specs.Outside.{Files, Outside, outside}
-use Rattle.xemu_top.specs.Trail.{Piece, run_trail}
+use Rattle.guest_run.specs.Call.{Ran}
+use Rattle.guest_run.specs.Run.{run}
+use Rattle.guest_run.specs.Outside.{Files, Outside, outside}
+use Rattle.guest_run.specs.Trail.{Piece, run_trail}
 
 -- the budget of steps, where the command line names none
 abbrev pub default_budget : ℕ
@@ -96,10 +95,6 @@ page_count len = (len + (page_size - 1)) / page_size
 abbrev pub in_image : ℕ → ℕ → Bool
 in_image count page = nat_le 1024 page && nat_lt page (1024 + count)
 
--- its one region: of a file, to be read 1 and executed 4
-abbrev pub image_regions : ℕ → List Region
-image_regions count = record { first = image_base / page_size; count = count; perms = record { 0 = 5 }; file = true } ∷ []
-
 -- the image's bytes from 400000H on, and zeros up to its last page's end; read 1 and execute 4
 unfoldable pub image_memory : List ℕ → Memory
 image_memory bytes = record {
@@ -120,15 +115,15 @@ first_state bytes = record {
   memory = image_memory bytes;
 }
 
--- the load: the first world of an image. The heap starts behind it, and the limits are the defaults
+-- the load: the first world of an image, which has no heap and keeps no regions yet; the limits are the defaults
 unfoldable pub first_world : List ℕ → Outside → World
 first_world bytes on = record {
   state = first_state bytes;
   pages = default_pages;
   cap = default_cap;
-  regions = image_regions (page_count (length bytes));
-  heap_start = image_base + page_size * page_count (length bytes);
-  break_at = image_base + page_size * page_count (length bytes);
+  regions = [];
+  heap_start = image_base;
+  break_at = image_base;
   actions = λ signal. default_action;
   blocked = 0;
   alternate = no_alternate;

@@ -8,13 +8,13 @@ use Rattle.core_step.specs.declared.machine.Machine.{Machine}
 use Rattle.xemu_top.specs.declared.ends.End.{End}
 use Rattle.xemu_top.specs.declared.ends.End.TheVariants.{Exit, Killed, Budget, Words, Image, Host, Memory}
 use Rattle.xemu_top.specs.declared.ends.Ended.{Ended}
-use Rattle.xemu_top.specs.declared.ends.RunEnd.{RunEnd}
-use Rattle.xemu_top.specs.Outside.{Outside, Leaves}
-use Rattle.xemu_top.specs.Trail.{Piece, FailsOn}
+use Rattle.guest_run.specs.declared.ends.RunEnd.{RunEnd}
+use Rattle.guest_run.specs.Outside.{Outside, Leaves}
+use Rattle.guest_run.specs.Trail.{Piece, FailsOn}
 use Rattle.xemu_top.specs.declared.loading.Loaded.{Loaded}
 use Rattle.xemu_top.specs.declared.loading.Loaded.TheVariants.{Whole, Long, Failed}
 use Rattle.xemu_top.specs.Command.{Outcome, command, trail, image_fits, no_command, no_image, status_of}
-use Rattle.xemu_top.specs.Following.{EachSwap, HasState, end_from}
+use Rattle.guest_run.specs.Following.{EachSwap, HasState}
 
 -- whether an end is the command's own, and no failure of the outside and no want of memory
 abbrev pub is_own : End → Bool
@@ -103,6 +103,13 @@ failed_after Loaded.Memory end = None
 pub record IsAnswer (ended : Ended) : Type 0 where
   pub status : ended.status ≡ status_of ended.end
   pub no_machine : is_own ended.end ≡ false → ended.machine ≡ None
+
+-- the end of a command by that of its run
+abbrev pub end_from : RunEnd → End
+end_from (RunEnd.Exit code) = Exit code
+end_from (RunEnd.Killed signal) = Killed signal
+end_from RunEnd.Budget = Budget
+end_from (RunEnd.Host call) = Host call
 
 -- a machine that a failed call stopped isn't answered
 abbrev pub machine_after : RunEnd → Machine → Option Machine

@@ -1,11 +1,3 @@
-pub mod Call
-pub mod Step
-pub mod Run
-pub mod Outside
-pub mod Trail
 pub mod Command
-pub mod Tally
-pub mod Following
-pub mod Streams
 pub mod Loading
 pub mod Headline

@@ -8,7 +8,7 @@ use Rattle.guest_pages.specs.Table.{perms_in}
 use Rattle.guest_pages.specs.Pages.{PagesValue, table_of}
 use Rattle.guest_pages.specs.Changes.{AllResident}
 use Rattle.xemu_top.specs.Command.{image_fits, in_image}
-use Rattle.xemu_top.specs.Tally.{Tally, IsCounted}
+use Rattle.guest_run.specs.Tally.{Tally, IsCounted}
 use Rattle.xemu_top.specs.declared.loading.Loaded.{Loaded}
 use Rattle.xemu_top.specs.declared.loading.Loaded.TheVariants.{Whole, Long, Failed, Memory}
 

@@ -38,16 +38,6 @@ pub enum End {
     Memory,
 }
 
-/// How a run ended.
-#[derive(Clone, Copy, Debug, PartialEq, Eq)]
-pub(crate) enum RunEnd {
-    Exit(u8),
-    Killed(u8),
-    Budget,
-    /// A call on the outside failed.
-    Host(HostCall),
-}
-
 /// What `emulate` answers: the exit status, the end, and the machine as the guest left it, where the end is the guest's.
 #[derive(Drop)]
 pub struct Ended {

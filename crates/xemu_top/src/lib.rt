@@ -1,11 +1,9 @@
 //! The top call: a command from its words to its end.
 #![tactic(auto)]
 
-mod calls;
 mod ends;
 mod laws;
 mod loading;
-mod running;
 #[cfg(test)]
 mod tests;
 mod top;

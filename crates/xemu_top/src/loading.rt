@@ -1,19 +1,22 @@
 //! The load: from a path to the machine before its first step.
-ghost use Rattle.std.specs.Prelude.{◌≡◌, ◌<◌, ◌≤◌, ◌+◌, ◌*◌, ◌/◌, ◌^◌, ℕ, List, IsTrue, IfOk, OnErr, Some, length, take, vec_len, if◌then◌else◌, true, false};
+ghost use Rattle.std.specs.Prelude.{◌≡◌, ◌<◌, ◌≤◌, ◌+◌, ◌*◌, ◌/◌, ◌^◌, ℕ, List, IsTrue, IfOk, OnErr, Some, length, take, vec_len, if◌then◌else◌, true, false, None, []};
 ghost use Rattle.machine_state.specs.Memory.{Swap};
 ghost use Rattle.host_edge.specs.Files.{Held};
 ghost use Rattle.guest_pages.specs.Pages.{byte_of, memory_of};
 ghost use Rattle.guest_pages.specs.Changes.{AllResident, IsBlank, KeepsSize};
-ghost use Rattle.xemu_top.specs.Command.{image_fits as image_fits_spec, header_fits as header_fits_spec, sizes_fit as sizes_fit_spec, number_from as number_from_spec, first_state, image_memory, default_pages, longest_image};
-ghost use Rattle.xemu_top.specs.Following.{EachSwap, HasState};
+ghost use Rattle.xemu_top.specs.Command.{image_fits as image_fits_spec, header_fits as header_fits_spec, sizes_fit as sizes_fit_spec, number_from as number_from_spec, first_state, image_memory, default_pages, longest_image, image_base};
+ghost use Rattle.guest_run.specs.Following.{EachSwap, HasState};
+ghost use Rattle.guest_run.specs.Guests.{IsGuest};
 ghost use Rattle.xemu_top.specs.Loading.{IsLoaded, LoadCaused, AreMapped, image_perms};
 
 use byteorder::{ByteOrder, LittleEndian};
 use core_step::{Machine, VecFile};
 use gpr_flags::{Flags, Gprs};
 use guest_pages::{Pages, Perms};
+use guest_run::Guest;
 use host_edge::Host;
 use machine_state::PAGE_SIZE;
+use region_map::Regions;
 use std::alloc::{AllocError, Global};
 
 /// The most bytes of a program file.
@@ -169,7 +172,7 @@ fn image_pages(alloc: Global, bytes: &[u8]) -> Result<Pages, AllocError>
 }
 
 /// The machine before the first step of an image.
-pub(crate) fn first_machine(alloc: Global, bytes: &[u8]) -> Result<Machine, AllocError>
+fn first_machine(alloc: Global, bytes: &[u8]) -> Result<Machine, AllocError>
     requires { (121 ≤ length bytes.now) × (length bytes.now ≤ longest_image) }
     ensures state { IfOk result (λ machine. EachSwap (λ swap. HasState swap machine (first_state bytes.now))) }
     ensures steps { IfOk result (λ machine. machine.steps ≡ 0) }
@@ -187,4 +190,17 @@ pub(crate) fn first_machine(alloc: Global, bytes: &[u8]) -> Result<Machine, Allo
         gs: 0,
         steps: 0,
     })
+}
+
+/// The guest before the first step of an image.
+pub(crate) fn first_guest(alloc: Global, bytes: &[u8]) -> Result<Guest, AllocError>
+    requires { (121 ≤ length bytes.now) × (length bytes.now ≤ longest_image) }
+    ensures state { IfOk result (λ guest. EachSwap (λ swap. HasState swap guest.machine (first_state bytes.now))) }
+    ensures steps { IfOk result (λ guest. guest.machine.steps ≡ 0) }
+    ensures is_guest { IfOk result IsGuest }
+    ensures goes { IfOk result (λ guest. guest.end ≡ None) }
+    ensures regions { IfOk result (λ guest. guest.regions ≡ record { regions = []; heap = image_base; at = image_base }) }
+{
+    let machine = first_machine(alloc, bytes)?;
+    Guest::new(alloc, machine, Regions::new(IMAGE_BASE, IMAGE_BASE))
 }

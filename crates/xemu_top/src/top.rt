@@ -1,17 +1,17 @@
 //! The command.
 ghost use Rattle.std.specs.Prelude.{◌≡◌, ◌≤◌, ◌^◌, ℕ, List, Option, IsSome, IsTrue, Some, None, false, is_some, length, map, string_bytes};
 ghost use Rattle.host_edge.specs.Files.{Held};
-ghost use Rattle.xemu_top.specs.Outside.{Outside, IsOutside, files_of};
+ghost use Rattle.guest_run.specs.Outside.{Outside, IsOutside, files_of};
 ghost use Rattle.xemu_top.specs.Command.{words_fit as words_fit_spec, path_fits as path_fits_spec, path_word, image_fits as image_fits_spec, on_image as on_image_spec, on_file, image_trail, file_trail, calls_made, default_budget, status_of, HasSignal};
-ghost use Rattle.xemu_top.specs.Tally.{IsCounted, NoneRose, tally};
+ghost use Rattle.guest_run.specs.Tally.{IsCounted, NoneRose, tally};
 ghost use Rattle.xemu_top.specs.Loading.{IsLoaded};
-ghost use Rattle.xemu_top.specs.Following.{Course, HasRunSignal, sinks};
+ghost use Rattle.guest_run.specs.Following.{Course, HasRunSignal, sinks};
 ghost use Rattle.xemu_top.specs.Headline.{Meets, MeetsWork, IsAnswer, AcceptsWords, EndsLoad, RefusesImage, IsImage, failed_after, failed_call, is_own, is_run_or_memory, RefusesWords, finished};
 
-use crate::ends::{End, Ended, ImageFault, RunEnd, WordFault};
-use crate::loading::{Loaded, first_machine, image_fits, load_file};
-use crate::running::run;
-use core_step::{FetchCache, Machine};
+use crate::ends::{End, Ended, ImageFault, WordFault};
+use crate::loading::{Loaded, first_guest, image_fits, load_file};
+use core_step::Machine;
+use guest_run::{RunEnd, run};
 use host_edge::{Host, HostCall, Sink, Source};
 use std::alloc::Global;
 
@@ -98,14 +98,10 @@ fn on_image<O: Sink, E: Sink>(alloc: Global, bytes: &[u8], out: &mut O, err: &mu
     if !image_fits(bytes) {
         return refused(End::Image(NO_IMAGE));
     }
-    let mut cache = match FetchCache::new(alloc) {
-        Ok(cache) => cache,
-        Err(_) => return refused(End::Memory),
-    };
-    match first_machine(alloc, bytes) {
-        Ok(mut machine) => {
-            let end = run(&mut machine, &mut cache, BUDGET, out, err);
-            finish(end, machine)
+    match first_guest(alloc, bytes) {
+        Ok(mut guest) => {
+            let end = run(&mut guest, BUDGET, out, err);
+            finish(end, guest.into_machine())
         }
         Err(_) => refused(End::Memory),
     }

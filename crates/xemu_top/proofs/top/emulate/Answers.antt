@@ -1,7 +1,7 @@
 use Rattle.std.proofs.Common.{◌∙◌, sym, map, string_bytes}
 use Rattle.xemu_top.specs.Command.{default_budget, path_word}
 use Rattle.xemu_top.specs.Loading.{IsLoaded}
-use Rattle.xemu_top.specs.Following.{sinks}
+use Rattle.guest_run.specs.Following.{sinks}
 use Rattle.xemu_top.proofs.CountLemmas.{cause-after, complete}
 use Rattle.xemu_top.proofs.TopLemmas.{meets-too_many, meets-words, meets-file, held_of, files_told}
 use Rattle.xemu_top.proofs.top.emulate.Goals as goal
