@@ -1,9 +1,10 @@
 -- The image that is read.
-use Rattle.std.proofs.Common.{◌≡◌, ℕ, ◌+◌, ◌*◌, ◌%◌, ◌^◌, ◌≤◌, Bool, true, false, cond, List, [], ◌∷◌, ◌++◌, length, All, Some, None, Ok, Err, refl, ◌∙◌, ap, arith, le_trans, mul-le-mul_left}
+use Rattle.std.proofs.Common.{◌≡◌, ℕ, ◌+◌, ◌*◌, ◌%◌, ◌^◌, ◌≤◌, Bool, true, false, cond, List, [], ◌∷◌, ◌++◌, length, All, Option, Some, None, Ok, Err, refl, ◌∙◌, ap, subst, arith, le_trans, mul-le-mul_left}
 use Rattle.std.proofs.lemmas.Bool.{and_parts, leb-true, ltb-true}
 use Rattle.std.proofs.lemmas.List.Elements.{All-nil, All-head, All-tail, All-cons, All-weaker}
 use Rattle.arrayvec.specs.ArrayVec.{ArrayVec}
 use Rattle.machine_state.specs.Memory.{page_size}
+use Rattle.elf_image.specs.declared.kinds.Image.{Image}
 use Rattle.elf_image.specs.declared.kinds.Segment.{Segment}
 use Rattle.elf_image.specs.declared.kinds.ImageFault.{ImageFault}
 use Rattle.elf_image.specs.Fields.{e_entry, e_phnum, header_place, file_header_size}
@@ -156,3 +157,12 @@ read-refused bytes pages fault e = ap (image_or bytes) e
 -- segments of an accepted image end low
 pub ends-low : (len : ℕ) (xs : List Segment) → All (IsSegment len) xs → All EndsLow xs
 ends-low len xs each = All-weaker (IsSegment len) EndsLow (λ s is. (let high = is.high in omega arith)) xs each
+
+-- what is read of a file is an accepted image
+pub read-image : (bytes : List ℕ) (pages : ℕ) (image : Image) → image_read bytes pages ≡ Ok image → IsImage (length bytes) pages image
+unfolding image_read
+read-image bytes pages image e = here (first_fault (checks bytes pages)) refl e
+  where
+    here : (o : Option ImageFault) → first_fault (checks bytes pages) ≡ o → image_or bytes o ≡ Ok image → IsImage (length bytes) pages image
+    here None none read = let same : image_of bytes ≡ image = cc in subst (IsImage (length bytes) pages) same (image-is bytes pages none)
+    here (Some fault) some read = cc

@@ -8,3 +8,4 @@ pub mod Paging
 pub mod Covers
 pub mod Fits
 pub mod Unique
+pub mod Bounds

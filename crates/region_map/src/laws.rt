@@ -1,9 +1,11 @@
 //! Laws of the definitions.
-ghost use Rattle.std.specs.Prelude.{List, ◌≡◌, ℕ};
-ghost use Rattle.machine_state.specs.Regions.{AreRegions, nature_at};
+ghost use Rattle.std.specs.Prelude.{List, ◌≡◌, ◌≤◌, ◌+◌, ◌-◌, ℕ, length};
+ghost use Rattle.machine_state.specs.Regions.{AreRegions, nature_at, page_sum};
 ghost use Rattle.guest_pages.specs.Pages.{PagesValue};
 ghost use Rattle.guest_pages.specs.Changes.{KeepsTable};
 ghost use Rattle.region_map.specs.Calls.{FitPages};
+ghost use Rattle.region_map.specs.Ranges.{IsAfter, page_end};
+ghost use Rattle.region_map.specs.declared.kinds.Change.{Change};
 ghost use Rattle.machine_state.specs.declared.kinds.Region.{Region};
 
 /// Accesses to pages leave pages that fit.
@@ -17,4 +19,10 @@ pub fn fitting_law()
 pub fn regions_law()
     ensures { (some others : List Region) → AreRegions some → AreRegions others
         → ((page : ℕ) → nature_at some page ≡ nature_at others page) → some ≡ others }
+{}
+
+/// A change of a range adds at most two regions, and at most the pages of the range.
+pub fn bounds_law()
+    ensures { (change : Change) (from to : ℕ) (old new : List Region) → AreRegions old → from ≤ to → to ≤ page_end
+        → IsAfter change from to old new → (length new ≤ length old + 2) × (page_sum new ≤ page_sum old + (to - from)) }
 {}
