@@ -5,3 +5,4 @@ pub mod FollowLemmas
 pub mod TrailLemmas
 pub mod SendLemmas
 pub mod GuestLemmas
+pub mod StartLemmas

@@ -8,3 +8,4 @@ pub mod Following
 pub mod Streams
 pub mod GuestValue
 pub mod Guests
+pub mod Starting

@@ -6,6 +6,7 @@ mod ends;
 mod guest;
 mod laws;
 mod running;
+mod starting;
 
 pub use core_step::Machine;
 pub use ends::RunEnd;
@@ -13,3 +14,5 @@ pub use guest::Guest;
 pub use host_edge::HostCall;
 pub use laws::run_trail_law;
 pub use running::run;
+pub use starting::{Limits, PrepareFault, prepare};
+pub use start_stack::TooLong;
