@@ -19,14 +19,14 @@ use Rattle.guest_run.specs.Streams.{Sends}
 use Rattle.guest_run.specs.Following.{Course, Follows, HasState, StandsFor, Worked, sinks}
 
 -- what a stream has after all bytes were put
-told-all : (old new : Option (List ℕ)) (bytes o : List ℕ) → is_some new ≡ is_some old
+pub told-all : (old new : Option (List ℕ)) (bytes o : List ℕ) → is_some new ≡ is_some old
     → (IsSome old → told new ≡ told old ++ bytes) → IsTold old o → IsTold new (o ++ bytes)
 told-all old None bytes o tells all is = tt
 told-all None (Some now) bytes o tells all is = cc
 told-all (Some was) (Some now) bytes o tells all is = ap (λ (xs : List ℕ). xs ++ bytes) is ∙ sym (all refl)
 
 -- what a stream has after a front of them was put
-told-front : (old new : Option (List ℕ)) (bytes o : List ℕ) → is_some new ≡ is_some old
+pub told-front : (old new : Option (List ℕ)) (bytes o : List ℕ) → is_some new ≡ is_some old
     → (IsSome old → (n : ℕ) × (n ≤ length bytes) × (told new ≡ told old ++ take n bytes)) → IsTold old o
     → (n : ℕ) × IsTold new (o ++ take n bytes)
 told-front old None bytes o tells front is = (0, tt)
@@ -40,7 +40,7 @@ made call [] some = absurd (omega (arith, some))
 made call (byte ∷ bytes) some = (0, omega arith, refl)
 
 -- a front and the rest are all that is put
-front-whole : (start bytes : List ℕ) (n : ℕ) → start ++ bytes ≡ (start ++ take n bytes) ++ drop n bytes
+pub front-whole : (start bytes : List ℕ) (n : ℕ) → start ++ bytes ≡ (start ++ take n bytes) ++ drop n bytes
 front-whole start bytes n = sym (append_assoc start _ _ ∙ ap (λ (xs : List ℕ). start ++ xs) (take-append-drop n bytes))
 
 -- ---- a write to a stream, by what the sink of that stream is given

@@ -85,7 +85,7 @@ run_end-guest_end (RunEnd.Killed signal) own = refl
 run_end-guest_end RunEnd.Budget own = refl
 run_end-guest_end (RunEnd.Host call) own = cc
 
-guest_end-run_end : (end : Option GuestEnd) → guest_end (run_end end) ≡ end
+pub guest_end-run_end : (end : Option GuestEnd) → guest_end (run_end end) ≡ end
 guest_end-run_end None = refl
 guest_end-run_end (Some (Exit code)) = refl
 guest_end-run_end (Some (Killed signal)) = refl

@@ -1,5 +1,4 @@
-mod Examples
-pub mod TrailLemmas
+pub mod LineLemmas
 pub mod TopLemmas
-pub mod CountLemmas
-pub mod ImageLemmas
+pub mod TrailLemmas
+

@@ -1,3 +1,5 @@
+pub mod Lines
 pub mod Command
 pub mod Loading
 pub mod Headline
+pub mod Parts
