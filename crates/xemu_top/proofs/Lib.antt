@@ -1,4 +1,4 @@
 pub mod LineLemmas
 pub mod TopLemmas
 pub mod TrailLemmas
-
+pub mod CountLemmas

@@ -1,5 +1,6 @@
 -- The command of the code gives what the written command gives.
-use Rattle.std.proofs.Common.{◌≡◌, ◌∙◌, ◌-◌, ap, sym, subst, arith, refl, append-nil, ℕ, zero, suc, List, [], ◌∷◌, ◌++◌, Bool, true, false, Option, Some, None, IfSome, IsSome, Result, Ok, Err, slice_get}
+use Rattle.std.proofs.Common.{◌≡◌, ◌∙◌, ◌-◌, ap, sym, subst, arith, refl, append-nil, ℕ, zero, suc, List, [], ◌∷◌, ◌++◌, Bool, true, false, Option, Some, None, IfSome, IsSome, Result, Ok, Err, slice_get, length, ◌<◌}
+use Rattle.std.proofs.lemmas.Bool.{le-leb, lt-leb}
 use Rattle.machine_state.specs.declared.kinds.GuestEnd.{GuestEnd}
 use Rattle.host_edge.specs.declared.outside.HostCall.{HostCall}
 use Rattle.host_edge.specs.declared.outside.HostCall.TheVariants.{Load}
@@ -14,7 +15,7 @@ use Rattle.command_words.specs.Reading.{words_read}
 use Rattle.elf_image.specs.declared.kinds.Image.{Image as ImageRead}
 use Rattle.elf_image.specs.declared.kinds.ImageFault.{ImageFault}
 use Rattle.elf_image.specs.Segments.{longest_file}
-use Rattle.elf_image.specs.Checks.{image_read}
+use Rattle.elf_image.specs.Checks.{image_read, checks, identity_checks}
 use Rattle.start_stack.specs.declared.kinds.TooLong.{TooLong}
 use Rattle.program_load.specs.Load.{Program, first_world}
 use Rattle.guest_run.specs.declared.ends.RunEnd.{RunEnd}
@@ -24,15 +25,16 @@ use Rattle.guest_run.specs.Outside.{Files, Outside, outside, Leaves}
 use Rattle.guest_run.specs.Trail.{Piece, FailsIn, FailsOn, run_trail}
 use Rattle.guest_run.specs.Following.{Beside, Course, EachSwap, HasState, Runs, SinkPair, guest_end, is_stopped, run_end, stopped_by}
 use Rattle.guest_run.specs.Guests.{GuestRuns, GuestRunsAs}
-use Rattle.guest_run.specs.Starting.{IsPrepared, stack_fault}
+use Rattle.guest_run.specs.Starting.{IsPrepared, stack_fault, program_from}
+use Rattle.command_words.specs.Command.{arguments, environment}
 use Rattle.guest_run.proofs.RunLemmas.{fails-later, course-then}
 use Rattle.guest_run.proofs.GuestLemmas.{runs-machine, guest_end-run_end}
 use Rattle.xemu_top.specs.declared.ends.End.{End}
 use Rattle.xemu_top.specs.declared.ends.Ended.{Ended}
 use Rattle.xemu_top.specs.declared.loading.Loaded.{Loaded}
-use Rattle.xemu_top.specs.Lines.{report_line, image_line}
-use Rattle.xemu_top.specs.Command.{Outcome, said, ran, run_of, reported, report_trail, ran_trail, end_of, line_piece, command, trail, on_words, words_trail, on_file, on_image, on_program, on_stack, file_trail, image_trail, program_trail, stack_trail, loaded_trail, load_piece, status_of}
-use Rattle.xemu_top.specs.Headline.{Meets, MeetsWork, is_own, is_refusal, failed_call}
+use Rattle.xemu_top.specs.Lines.{report_line, start_line}
+use Rattle.xemu_top.specs.Command.{Outcome, said, refused, program_of, ran, run_of, reported, report_trail, ran_trail, end_of, line_piece, command, trail, on_words, words_trail, on_file, on_image, on_program, on_stack, file_trail, image_trail, program_trail, stack_trail, loaded_trail, load_piece, status_of}
+use Rattle.xemu_top.specs.Headline.{Meets, MeetsWork, is_own, is_refusal, failed_call, too_long}
 use Rattle.xemu_top.specs.Parts.{DoesWork, MeetsBeside, Says, Reported, ReportsRun, report_of, end_from, machine_after, finished, finished_by, stopped}
 
 -- ---- calls that failed on a longer trail
@@ -316,6 +318,28 @@ module _ (spoken : Command) (program : Program) (before after : SinkPair) (ended
       → DoesWork (on_stack spoken program fault) (stack_trail spoken program fault) before after ended → WorksProgram
   works-program fault is works =
       subst (λ (f : Option TooLong). DoesWork (on_stack spoken program f) (stack_trail spoken program f) before after ended) (sym is) works
+
+  pub works-fits : stack_fault program ≡ None
+      → DoesWork (λ on. ran spoken.report on.files (run_of spoken program on)) (ran_trail spoken program) before after ended → WorksProgram
+  works-fits is works = works-program None is works
+
+  pub works-too_long : (fault : TooLong) → stack_fault program ≡ Some fault
+      → DoesWork (refused (End.Start fault) (start_line fault)) (λ on. line_piece (start_line fault) on ∷ []) before after ended → WorksProgram
+  works-too_long fault is works = works-program (Some fault) is works
+
+-- what holds of the program of some words holds of the program that was prepared, with the same arguments and environment
+pub of_words : (P : Program → Type 0) (words : List (List ℕ)) (spoken : Command) (bytes : List ℕ) (image : ImageRead) (args env : List (List ℕ))
+    → args ≡ arguments words spoken → env ≡ environment words spoken → P (program_from bytes image args env spoken.seed)
+    → P (program_of words spoken bytes image)
+of_words P words spoken bytes image args env args_is env_is h =
+    subst (λ (e : List (List ℕ)). P (program_from bytes image (arguments words spoken) e spoken.seed)) env_is
+    (subst (λ (a : List (List ℕ)). P (program_from bytes image a env spoken.seed)) args_is h)
+
+-- a file that is longer than may be
+pub image_read-long : (bytes : List ℕ) (pages : ℕ) → longest_file < length bytes → image_read bytes pages ≡ Err too_long
+unfolding image_read checks identity_checks
+image_read-long bytes pages long =
+    rw (le-leb 64 (length bytes) (omega (arith, long)), lt-leb (length bytes) longest_file long) refl
 
 -- memory that is wanting before anything is done
 pub works-nothing : (outcome : Outside → Outcome) (trail_of : Outside → List Piece) (on_sinks : SinkPair) → Course on_sinks on_sinks None

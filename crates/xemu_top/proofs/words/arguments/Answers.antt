@@ -4,5 +4,5 @@ use Rattle.xemu_top.proofs.words.arguments.Goals as goal
 
 pub returns-clause-value : goal.returns-clause-value
 returns-clause-value c =
-    ap (map string_bytes) (take_all (drop c.args.command.now.program c.args.words.now) _ (omega (arith, length-drop c.args.command.now.program c.args.words.now)))
+    ap (map string_bytes) (take_all _ (drop c.args.command.now.program c.args.words.now) (omega (arith, length-drop c.args.command.now.program c.args.words.now)))
     ∙ sym (drop-map string_bytes c.args.command.now.program c.args.words.now)
