@@ -1,10 +1,4 @@
-pub mod Residence
-mod Examples
-pub mod CallLemmas
-pub mod RunLemmas
-pub mod FollowLemmas
-pub mod TrailLemmas
+pub mod LineLemmas
 pub mod TopLemmas
+pub mod TrailLemmas
 pub mod CountLemmas
-pub mod SendLemmas
-pub mod ImageLemmas

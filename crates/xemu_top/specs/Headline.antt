@@ -1,20 +1,29 @@
 -- The headline: a run of the command is the written machine's run. And the cause of each end.
-use Rattle.std.specs.Prelude.{◌≡◌, ℕ, ◌<◌, ◌^◌, ⊤, Bool, true, false, List, Option, Some, None, IsTrue}
+use Rattle.std.specs.Prelude.{◌≡◌, ℕ, ◌<◌, ◌≤◌, ◌^◌, ◌⊎◌, ⊤, Bool, true, false, List, Option, Some, None, IsTrue, Result, Ok, Err}
 use Rattle.host_edge.specs.declared.outside.HostCall.{HostCall}
-use Rattle.host_edge.specs.declared.outside.HostCall.TheVariants.{Load}
+use Rattle.host_edge.specs.declared.outside.HostCall.TheVariants.{Load, PutErr}
 use Rattle.machine_state.specs.Memory.{Swap}
 use Rattle.machine_state.specs.State.{State}
+use Rattle.command_words.specs.declared.kinds.Command.{Command}
+use Rattle.command_words.specs.declared.kinds.WordFault.{WordFault}
+use Rattle.command_words.specs.Reading.{words_read}
+use Rattle.elf_image.specs.declared.kinds.Image.{Image as ImageRead}
+use Rattle.elf_image.specs.declared.kinds.ImageFault.{ImageFault}
+use Rattle.elf_image.specs.Segments.{longest_file}
+use Rattle.elf_image.specs.Checks.{image_read}
+use Rattle.start_stack.specs.declared.kinds.TooLong.{TooLong}
 use Rattle.core_step.specs.declared.machine.Machine.{Machine}
 use Rattle.xemu_top.specs.declared.ends.End.{End}
-use Rattle.xemu_top.specs.declared.ends.End.TheVariants.{Exit, Killed, Budget, Words, Image, Host, Memory}
+use Rattle.xemu_top.specs.declared.ends.End.TheVariants.{Exit, Killed, Budget, Words, Image, Start, Host, Memory}
 use Rattle.xemu_top.specs.declared.ends.Ended.{Ended}
-use Rattle.xemu_top.specs.declared.ends.RunEnd.{RunEnd}
-use Rattle.xemu_top.specs.Outside.{Outside, Leaves}
-use Rattle.xemu_top.specs.Trail.{Piece, FailsOn}
+use Rattle.guest_run.specs.declared.ends.RunEnd.{RunEnd}
+use Rattle.guest_run.specs.Outside.{Files, Outside, Leaves}
+use Rattle.guest_run.specs.Trail.{Piece, FailsOn}
 use Rattle.xemu_top.specs.declared.loading.Loaded.{Loaded}
 use Rattle.xemu_top.specs.declared.loading.Loaded.TheVariants.{Whole, Long, Failed}
-use Rattle.xemu_top.specs.Command.{Outcome, command, trail, image_fits, no_command, no_image, status_of}
-use Rattle.xemu_top.specs.Following.{EachSwap, HasState, end_from}
+use Rattle.guest_run.specs.Starting.{stack_fault}
+use Rattle.xemu_top.specs.Command.{Outcome, command, trail, status_of, program_of, file_of}
+use Rattle.guest_run.specs.Following.{EachSwap, HasState}
 
 -- whether an end is the command's own, and no failure of the outside and no want of memory
 abbrev pub is_own : End → Bool
@@ -44,8 +53,8 @@ pub record MeetsWork (outcome : Outcome) (pieces : List Piece) (on : Outside) (e
   pub nothing : ended.end ≡ Memory → Stands on
 
 -- the headline: the answer is by the written command's outcome and trail
-abbrev pub Meets : (budget : ℕ) → (words : List (List ℕ)) → (on : Outside) → Ended → (Outside → Type 0) → Type 0
-Meets budget words on = MeetsWork (command budget words on) (trail budget words on) on
+abbrev pub Meets : (words : List (List ℕ)) → (on : Outside) → Ended → (Outside → Type 0) → Type 0
+Meets words on = MeetsWork (command words on) (trail words on) on
 
 -- the call on the outside that an end names
 abbrev pub failed_call : End → Option HostCall
@@ -60,42 +69,58 @@ is_run_or_memory Budget = true
 is_run_or_memory Memory = true
 is_run_or_memory other = false
 
--- words or an image were refused
+-- words, an image or a start stack were refused
 abbrev pub is_refusal : End → Bool
 is_refusal (Words fault) = true
 is_refusal (Image fault) = true
+is_refusal (Start fault) = true
 is_refusal other = false
 
--- the file that the words name is an image
-abbrev pub IsImage : Option (List ℕ) → Type 0
-IsImage None = ⊥
-IsImage (Some bytes) = IsTrue (image_fits bytes)
+-- the words are a command, the file that they name is there and is an image, and the start stack fits
+pub record IsRunnable (words : List (List ℕ)) (files : Files) : Type 0 where
+  pub command : Command
+  pub read : words_read words ≡ Ok command
+  pub bytes : List ℕ
+  pub file : file_of words command files ≡ Some bytes
+  pub image : ImageRead
+  pub image_is : image_read bytes command.pages ≡ Ok image
+  pub stack : stack_fault (program_of words command bytes image) ≡ None
 
--- the end isn't that words were refused
-abbrev pub AcceptsWords : End → Type 0
-AcceptsWords end = (fault : _) → end ≡ Words fault → ⊥
+-- the end is this refusal, or the put of its line failed
+abbrev pub IsRefused : End → End → Type 0
+IsRefused refusal end = (end ≡ refusal) ⊎ (end ≡ Host PutErr)
 
--- words that don't fit are refused, and only such words, where their number fits 32 bits
-pub record RefusesWords (count : ℕ) (fit : Bool) (end : End) : Type 0 where
-  pub always : count < 2 ^ 32 → fit ≡ false → end ≡ no_command
-  pub only : fit ≡ true → AcceptsWords end
+-- words are refused by their first fault, and only so, where their number fits 32 bits
+pub record RefusesWords (count : ℕ) (read : Result Command WordFault) (end : End) : Type 0 where
+  pub always : (fault : WordFault) → count < 2 ^ 32 → read ≡ Err fault → IsRefused (Words fault) end
+  pub only : (fault : WordFault) → end ≡ Words fault → read ≡ Err fault
 
--- a file that isn't an image is refused, whatever memory there is, and only such a file
-pub record RefusesImage (fits : Bool) (end : End) : Type 0 where
-  pub always : fits ≡ false → end ≡ no_image
-  pub only : fits ≡ true → is_refusal end ≡ false
+-- the end where a start stack is too long, or fits: want of memory may come before its refusal
+abbrev pub EndsStart : Option TooLong → End → Type 0
+EndsStart (Some fault) end = IsRefused (Start fault) end ⊎ (end ≡ Memory)
+EndsStart None end = is_refusal end ≡ false
+
+-- the end after a whole file by what is read of it: one that isn't an image is refused as such, whatever memory there is, and only
+-- such a file
+abbrev pub EndsImage : List (List ℕ) → Command → List ℕ → Result ImageRead ImageFault → End → Type 0
+EndsImage words command bytes (Err fault) end = IsRefused (Image fault) end
+EndsImage words command bytes (Ok image) end = EndsStart (stack_fault (program_of words command bytes image)) end
+
+-- the refusal of a file that is longer than may be
+abbrev pub too_long : ImageFault
+too_long = record { number = 1; place = longest_file }
 
 -- the end after a load by what it gave
-abbrev pub EndsLoad : Loaded → End → Type 0
-EndsLoad (Whole bytes) end = RefusesImage (image_fits bytes.items) end
-EndsLoad Long end = end ≡ no_image
-EndsLoad Failed end = end ≡ Host (Load 1)
-EndsLoad Loaded.Memory end = end ≡ Memory
+abbrev pub EndsLoad : List (List ℕ) → Command → Loaded → End → Type 0
+EndsLoad words command (Whole bytes) end = EndsImage words command bytes.items (image_read bytes.items command.pages) end
+EndsLoad words command Long end = IsRefused (Image too_long) end
+EndsLoad words command Failed end = end ≡ Host (Load command.program)
+EndsLoad words command Loaded.Memory end = end ≡ Memory
 
--- the put that failed after a load: none is made unless it gave a file
+-- the put that failed after a load: none is made where it gave no file
 abbrev pub failed_after : Loaded → End → Option HostCall
 failed_after (Whole bytes) end = failed_call end
-failed_after Long end = None
+failed_after Long end = failed_call end
 failed_after Failed end = None
 failed_after Loaded.Memory end = None
 
@@ -103,13 +128,3 @@ failed_after Loaded.Memory end = None
 pub record IsAnswer (ended : Ended) : Type 0 where
   pub status : ended.status ≡ status_of ended.end
   pub no_machine : is_own ended.end ≡ false → ended.machine ≡ None
-
--- a machine that a failed call stopped isn't answered
-abbrev pub machine_after : RunEnd → Machine → Option Machine
-machine_after (RunEnd.Host call) machine = None
-machine_after other machine = Some machine
-
--- the answer of a command by the end of its run
-abbrev pub finished : RunEnd → Machine → Ended
-finished end machine =
-    record { status = status_of (end_from end); end = end_from end; machine = machine_after end machine }

@@ -1,11 +1,5 @@
-pub mod Call
-pub mod Step
-pub mod Run
-pub mod Outside
-pub mod Trail
+pub mod Lines
 pub mod Command
-pub mod Tally
-pub mod Following
-pub mod Streams
 pub mod Loading
 pub mod Headline
+pub mod Parts

@@ -2,24 +2,11 @@
 ghost use Rattle.std.specs.Prelude.{◌≡◌, ◌<◌};
 ghost use Rattle.xemu_top.specs.Command.{status_of};
 
+use command_words::WordFault;
 use core_step::Machine;
+use elf_image::ImageFault;
 use host_edge::HostCall;
-
-/// A command line that isn't accepted: the index of the word, from 0, and which rule it breaks. Kind 15 at word 0 is any
-/// command line other than `run` and the path of a program.
-#[derive(Clone, Copy, Debug, PartialEq, Eq)]
-pub struct WordFault {
-    pub word: u32,
-    pub kind: u8,
-}
-
-/// A program file that isn't accepted: which check it fails, and the place in the file. Number 15 at place 0 is any file
-/// that hasn't the one form of image (docs/MACHINE.md).
-#[derive(Clone, Copy, Debug, PartialEq, Eq)]
-pub struct ImageFault {
-    pub number: u8,
-    pub place: u64,
-}
+use start_stack::TooLong;
 
 /// The end of a command.
 #[derive(Clone, Copy, Debug, PartialEq, Eq)]
@@ -30,22 +17,16 @@ pub enum End {
     Killed(u8),
     /// The guest was still running when the budget of steps was used.
     Budget,
+    /// The words of the command line weren't accepted.
     Words(WordFault),
+    /// The program file wasn't accepted.
     Image(ImageFault),
+    /// The start stack would be too long.
+    Start(TooLong),
     /// A call on the outside failed.
     Host(HostCall),
     /// Memory was wanting before the first step.
     Memory,
-}
-
-/// How a run ended.
-#[derive(Clone, Copy, Debug, PartialEq, Eq)]
-pub(crate) enum RunEnd {
-    Exit(u8),
-    Killed(u8),
-    Budget,
-    /// A call on the outside failed.
-    Host(HostCall),
 }
 
 /// What `emulate` answers: the exit status, the end, and the machine as the guest left it, where the end is the guest's.
@@ -69,7 +50,7 @@ impl End {
             End::Killed(signal) => 128 + signal,
             End::Budget => 75,
             End::Words(_) => 64,
-            End::Image(_) => 65,
+            End::Image(_) | End::Start(_) => 65,
             End::Host(_) => 74,
             End::Memory => 71,
         }

@@ -1,16 +1,28 @@
-use Rattle.std.proofs.Common.{◌≡◌, ◌∙◌, sym, true}
-use Rattle.xemu_top.specs.Command.{default_budget, image_fits, first_world}
-use Rattle.xemu_top.specs.Outside.{IsOutside}
-use Rattle.xemu_top.proofs.TopLemmas.{meets-finished, runs-first, first_stands}
+use Rattle.std.proofs.Common.{◌≡◌, ◌∙◌, ap, subst, map, string_bytes, Some}
+use Rattle.program_load.specs.Load.{Program}
+use Rattle.guest_run.specs.declared.starting.PrepareFault.{PrepareFault}
+use Rattle.guest_run.specs.Starting.{IsPrepared, PrepareRefuses, stack_fault}
+use Rattle.xemu_top.specs.Command.{program_of}
+use Rattle.xemu_top.proofs.TopLemmas.{works-fits, works-too_long, of_words}
 use Rattle.xemu_top.proofs.top.on_image.Goals as goal
 
-pub returns-in-Ok-first_machine-clause-meets : goal.returns-in-Ok-first_machine-clause-meets
-returns-in-Ok-first_machine-clause-meets g c held left on is =
-    let fits : image_fits c.args.bytes.now ≡ true = sym c.image_fits.ensures.value ∙ c.if-not-image_fits.false in
-    rw c.finish.ensures
-    (meets-finished default_budget c.args.bytes.now on c.run-end.new.machine
-    (IsOutside held left (g.O.Sink.taken c.run-end.new.out) (g.E.Sink.taken c.run-end.new.err)) fits c.run-end.result
-    (λ swap. runs-first _ swap c.run-end.new.machine on.files (first_world c.args.bytes.now on) default_budget
-    c.in-Ok-first_machine.machine.steps c.run-end.result c.in-Ok-first_machine.ensures.steps
-    (c.run-end.ensures.follows swap held left on.files (first_world c.args.bytes.now on)
-    (first_stands held left _ _ swap _ c.args.bytes.now on (c.in-Ok-first_machine.ensures.state swap) is))))
+pub returns-in-Ok-prepare-clause-works : goal.returns-in-Ok-prepare-clause-works
+returns-in-Ok-prepare-clause-works g c =
+    let program : Program = program_of (map string_bytes c.args.words.now) c.args.command.now c.args.bytes.now c.args.image.now in
+    let prepared : IsPrepared program c.args.command.now.pages c.in-Ok-prepare.guest =
+    of_words (λ (p : Program). IsPrepared p c.args.command.now.pages c.in-Ok-prepare.guest) (map string_bytes c.args.words.now) c.args.command.now
+    c.args.bytes.now c.args.image.now _ _ c.arguments.ensures.value (ap (map string_bytes) c.deref.ensures.value ∙ c.in-Ok.ensures)
+    c.in-Ok-prepare.ensures.prepared in
+    works-fits c.args.command.now program _ _ c.on_guest.result prepared.short (c.on_guest.ensures.works program prepared)
+
+pub returns-in-Err-TooLong-clause-works : goal.returns-in-Err-TooLong-clause-works
+returns-in-Err-TooLong-clause-works g c =
+    let program : Program = program_of (map string_bytes c.args.words.now) c.args.command.now c.args.bytes.now c.args.image.now in
+    let refused : PrepareRefuses program c.in-Err-TooLong.field-0 =
+    of_words (λ (p : Program). PrepareRefuses p c.in-Err-TooLong.field-0) (map string_bytes c.args.words.now) c.args.command.now
+    c.args.bytes.now c.args.image.now _ _ c.arguments.ensures.value (ap (map string_bytes) c.deref.ensures.value ∙ c.in-Ok.ensures)
+    c.in-Err-TooLong.ensures.refused in
+    let long : stack_fault program ≡ Some c.in-Err-TooLong.fault =
+    subst (λ (f : PrepareFault). PrepareRefuses program f) c.in-Err-TooLong.field-0-is refused in
+    works-too_long c.args.command.now program _ _ c.refuse.result c.in-Err-TooLong.fault long
+    (rw c.start_line.ensures at (c.refuse.ensures.works (g.O.Sink.taken c.args.out.now) (g.O.Sink.faults c.args.out.now)))

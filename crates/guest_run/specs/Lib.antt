@@ -1,0 +1,11 @@
+pub mod Call
+pub mod Step
+pub mod Run
+pub mod Outside
+pub mod Trail
+pub mod Tally
+pub mod Following
+pub mod Streams
+pub mod GuestValue
+pub mod Guests
+pub mod Starting
