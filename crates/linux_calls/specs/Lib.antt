@@ -1,0 +1,9 @@
+pub mod Errnos
+pub mod Call
+pub mod Parts
+pub mod Mapping
+pub mod FileCalls
+pub mod Records
+pub mod Table
+pub mod View
+pub mod Following

@@ -1,0 +1,214 @@
+-- The calls on the pages of memory (Linux, mmap(2), mprotect(2), munmap(2), brk(2), madvise(2), in part).
+use Rattle.std.specs.Prelude.{ℕ, zero, suc, ◌+◌, ◌-◌, ◌*◌, ◌/◌, ◌%◌, ◌==◌, Bool, true, false, not, ◌&&◌, ◌||◌, if◌then◌else◌, nat_lt, nat_le, List, [], ◌∷◌, Option, Some, None, is_none}
+use Rattle.std.specs.Int.RustNames.{bit_and}
+use Rattle.std.specs.List.{list_any, range_with_len}
+use Rattle.std.specs.Option.{option_map}
+use Rattle.machine_state.specs.Memory.{page_size}
+use Rattle.machine_state.specs.Regions.{nature_at}
+use Rattle.machine_state.specs.State.{State}
+use Rattle.machine_state.specs.World.{World, place_at}
+use Rattle.machine_state.specs.declared.kinds.Region.{Region}
+use Rattle.machine_state.specs.declared.permissions.Perms.{Perms}
+use Rattle.guest_files.specs.Checks.{first_failing, does_read, is_stream}
+use Rattle.guest_files.specs.Content.{piece_of}
+use Rattle.guest_files.specs.Errnos.{ebadf, eacces, einval}
+use Rattle.guest_files.specs.Moves.{content_at}
+use Rattle.guest_files.specs.Open.{has_flag}
+use Rattle.guest_files.specs.declared.errno.Errno.{Errno}
+use Rattle.region_map.specs.Calls.{lowest_page, highest_end, pages_up, is_mapped, is_taken, heap_pages}
+use Rattle.region_map.specs.Ranges.{changed_regions}
+use Rattle.region_map.specs.declared.kinds.Change.{Change}
+use Rattle.region_map.specs.declared.kinds.Change.TheVariants.{Map, Unmap, Protect}
+use Rattle.linux_calls.specs.Errnos.{enomem, enodev}
+use Rattle.linux_calls.specs.Call.{Called, gives, refuses, unless, with_bytes, is_page, low, rdi, rsi, rdx, r10, r8, r9}
+use Rattle.linux_calls.specs.Parts.{files_of, passes_limits, cleared, with_change}
+
+-- whether one of so many pages from one on passes a test
+abbrev pub some_in : (ℕ → Bool) → (from count : ℕ) → Bool
+some_in test from count = list_any test (range_with_len from count)
+
+-- a page that a range has as a hole: it isn't mapped, or lies behind the last one that a guest may choose
+abbrev pub is_hole : List Region → ℕ → Bool
+is_hole regions page = not (is_mapped regions page) || nat_le highest_end page
+
+-- the permissions that a call asks for: PROT_READ 1, PROT_WRITE 2, PROT_EXEC 4
+abbrev pub asked_perms : ℕ → Perms
+asked_perms bits = record { 0 = bits % 8 }
+
+-- ---- mprotect: rdi is the first page's address, rsi the length, rdx the permissions
+abbrev pub protect_change : List ℕ → Change
+protect_change gprs = Protect (asked_perms (rdx gprs))
+
+unfoldable pub mprotect_call : World → Called
+mprotect_call w =
+    let gprs = w.state.gprs in
+    let from = rdi gprs / page_size in
+    let count = pages_up (rsi gprs) in
+    unless (first_failing ((not (is_page (rdi gprs)), einval) ∷ [])) w
+    (if rsi gprs == 0 then gives 0 w
+    else unless (first_failing (
+      (some_in (is_hole w.regions) from count, enomem)
+      ∷ (passes_limits w (changed_regions (protect_change gprs) from (from + count) w.regions), enomem)
+      ∷ []
+    )) w (gives 0 (with_change (protect_change gprs) from (from + count) w)))
+
+-- ---- munmap: rdi is the first page's address, rsi the length; pages that aren't mapped are no fault
+unfoldable pub munmap_call : World → Called
+munmap_call w =
+    let gprs = w.state.gprs in
+    let from = rdi gprs / page_size in
+    let to = from + pages_up (rsi gprs) in
+    unless (first_failing (
+      (not (is_page (rdi gprs)), einval)
+      ∷ (rsi gprs == 0, einval)
+      ∷ (nat_lt highest_end to, einval)
+      ∷ (passes_limits w (changed_regions Unmap from to w.regions), enomem)
+      ∷ []
+    )) w (gives 0 (with_change Unmap from to w))
+
+-- ---- brk: rdi is the new break
+-- the heap's end moves from one page to another
+abbrev pub resized : World → (old new : ℕ) → World
+resized w old new =
+    if nat_lt old new then with_change heap_pages old new w
+    else (if nat_lt new old then with_change Unmap new old w else w)
+
+abbrev pub resize_passes : World → (old new : ℕ) → Bool
+resize_passes w old new =
+    (nat_lt old new && passes_limits w (changed_regions heap_pages old new w.regions))
+    || (nat_lt new old && passes_limits w (changed_regions Unmap new old w.regions))
+
+-- whether the break can't be moved to an address
+abbrev pub stays_broken : World → ℕ → Bool
+stays_broken w to =
+    let old = pages_up w.break_at in
+    let new = pages_up to in
+    nat_lt to w.heap_start || (some_in (is_taken w.regions) old (new - old) || resize_passes w old new)
+
+unfoldable pub brk_call : World → Called
+brk_call w =
+    let to = rdi w.state.gprs in
+    if stays_broken w to then gives w.break_at w
+    else gives to (record (resized w (pages_up w.break_at) (pages_up to)) { break_at = to })
+
+-- ---- madvise: rdi is the first page's address, rsi the length, rdx the advice
+-- a page of a file
+abbrev pub is_file_page : List Region → ℕ → Bool
+is_file_page regions page = elim (nature_at regions page) [ None ↦ false | Some nature ↦ nature.file ]
+
+-- MADV_DONTNEED
+abbrev pub dont_need : ℕ
+dont_need = 4
+
+-- advice that changes nothing: MADV_NORMAL 0, MADV_RANDOM 1, MADV_SEQUENTIAL 2, MADV_WILLNEED 3, MADV_FREE 8,
+-- MADV_HUGEPAGE 14, MADV_NOHUGEPAGE 15, MADV_DONTDUMP 16
+abbrev pub is_idle_advice : ℕ → Bool
+is_idle_advice advice = nat_le advice 3 || advice == 8 || advice == 14 || advice == 15 || advice == 16
+
+-- the world with zeros in the pages from one on and below another
+abbrev pub with_zeros : (from to : ℕ) → World → World
+with_zeros from to w =
+    record w { state = record w.state { memory = record w.state.memory { byte = cleared from to w.state.memory.byte } } }
+
+unfoldable pub madvise_call : World → Called
+madvise_call w =
+    let gprs = w.state.gprs in
+    let from = rdi gprs / page_size in
+    let count = pages_up (rsi gprs) in
+    let advice = low (rdx gprs) in
+    unless (first_failing (
+      (not (is_page (rdi gprs)), einval)
+      ∷ (some_in (is_hole w.regions) from count, enomem)
+      ∷ (advice == dont_need && some_in (is_file_page w.regions) from count, einval)
+      ∷ (not (advice == dont_need) && not (is_idle_advice advice), einval)
+      ∷ []
+    )) w (gives 0 (if advice == dont_need then with_zeros from (from + count) w else w))
+
+-- ---- mmap: rdi is the address or a hint, rsi the length, rdx the permissions, r10 the flags, r8 the descriptor, r9 the offset
+-- MAP_SHARED 1, MAP_PRIVATE 2: the two low bits of the flags
+abbrev pub map_shared : ℕ
+map_shared = 1
+
+abbrev pub sharing_of : ℕ → ℕ
+sharing_of flags = flags % 4
+
+abbrev pub is_fixed : ℕ → Bool
+is_fixed flags = has_flag flags 0x10
+
+-- MAP_ANONYMOUS
+abbrev pub is_anonymous : ℕ → Bool
+is_anonymous flags = has_flag flags 0x20
+
+-- the page behind the highest that is given where no other is asked for (this program's own)
+abbrev pub given_end : ℕ
+given_end = 0x7FFFF0000000 / page_size
+
+-- so many pages from one on are free, and end at a page or below it
+abbrev pub is_free : List Region → (end count page : ℕ) → Bool
+is_free regions end count page = nat_le lowest_page page && nat_le (page + count) end && not (some_in (is_mapped regions) page count)
+
+-- the highest number below another that passes a test
+unfoldable pub last_below : (ℕ → Bool) → ℕ → Option ℕ
+last_below test zero = None
+last_below test (suc n) = if test n then Some n else last_below test n
+
+-- the first page of the pages that a call gives where no page is asked for: the hint, where it can be had, and else the highest
+abbrev pub free_page : List Region → (hint count : ℕ) → Option ℕ
+free_page regions hint count =
+    if is_page hint && is_free regions highest_end count (hint / page_size) then Some (hint / page_size)
+    else last_below (is_free regions given_end count) given_end
+
+-- the first page of the pages that a call maps
+abbrev pub mmap_page : World → Option ℕ
+mmap_page w =
+    let gprs = w.state.gprs in
+    if is_fixed (r10 gprs) then Some (rdi gprs / page_size) else free_page w.regions (rdi gprs) (pages_up (rsi gprs))
+
+-- the descriptor that pages are copied from, and whether it is a file that can be read
+abbrev pub mapped_descriptor : World → ℕ
+mapped_descriptor w = low (r8 w.state.gprs)
+
+abbrev pub is_readable_file : World → ℕ → Bool
+is_readable_file w fd = does_read (place_at w.descriptors fd) && not (is_stream (place_at w.descriptors fd))
+
+-- what is checked of the arguments
+unfoldable pub mmap_refusal : World → Option Errno
+mmap_refusal w =
+    let gprs = w.state.gprs in
+    let flags = r10 gprs in
+    let of_file = not (is_anonymous flags) in
+    let from = rdi gprs / page_size in
+    let count = pages_up (rsi gprs) in
+    first_failing (
+    (rsi gprs == 0, einval)
+    ∷ (not (is_page (r9 gprs)), einval)
+    ∷ (not (sharing_of flags == 1) && not (sharing_of flags == 2), einval)
+    ∷ (of_file && is_none (place_at w.descriptors (mapped_descriptor w)), ebadf)
+    ∷ (of_file && not (is_readable_file w (mapped_descriptor w)), eacces)
+    ∷ (of_file && sharing_of flags == map_shared, enodev)
+    ∷ (is_fixed flags && not (is_page (rdi gprs)), einval)
+    ∷ (is_fixed flags && (nat_lt from lowest_page || nat_lt highest_end (from + count)), enomem)
+    ∷ []
+    )
+
+-- the pages that are mapped: of a file or not
+abbrev pub mmap_change : List ℕ → Change
+mmap_change gprs = Map (asked_perms (rdx gprs)) (not (is_anonymous (r10 gprs)))
+
+-- the bytes that are copied into them: those of the file from the offset on, as many as fit
+abbrev pub mmap_bytes : World → List ℕ
+mmap_bytes w =
+    let gprs = w.state.gprs in
+    if is_anonymous (r10 gprs) then [] else piece_of (content_at (files_of w) (mapped_descriptor w)) (r9 gprs) (pages_up (rsi gprs) * page_size)
+
+-- what is mapped from a page on, if one is found
+abbrev pub mmap_at : Option ℕ → World → Called
+mmap_at None w = refuses enomem w
+mmap_at (Some from) w =
+    let gprs = w.state.gprs in
+    let to = from + pages_up (rsi gprs) in
+    unless (first_failing ((passes_limits w (changed_regions (mmap_change gprs) from to w.regions), enomem) ∷ [])) w
+    (gives (from * page_size) (with_bytes (with_change (mmap_change gprs) from to w) (from * page_size) (mmap_bytes w)))
+
+unfoldable pub mmap_call : World → Called
+mmap_call w = unless (mmap_refusal w) w (mmap_at (mmap_page w) w)

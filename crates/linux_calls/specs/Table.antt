@@ -1,0 +1,78 @@
+-- The system calls that there are, and what each does.
+use Rattle.std.specs.Prelude.{ℕ, ◌%◌, ◌^◌, ◌==◌, if◌then◌else◌, List, [], ◌∷◌, Option, Some, None}
+use Rattle.machine_state.specs.State.{State}
+use Rattle.machine_state.specs.World.{World}
+use Rattle.linux_calls.specs.declared.kinds.Call.{Call}
+use Rattle.linux_calls.specs.declared.kinds.Call.TheVariants.{Close, Fstat, Lseek, Mmap, Mprotect, Munmap, Brk, Ioctl, Madvise, Getpid, Exit, Uname, ArchPrctl, SetTidAddress, ClockGettime, ExitGroup}
+use Rattle.linux_calls.specs.Errnos.{enosys}
+use Rattle.linux_calls.specs.Call.{Called, Exits, gives, refuses, rax, rdi}
+use Rattle.linux_calls.specs.FileCalls.{close_call, lseek_call, ioctl_call}
+use Rattle.linux_calls.specs.Mapping.{mmap_call, mprotect_call, munmap_call, brk_call, madvise_call}
+use Rattle.linux_calls.specs.Records.{fstat_call, uname_call, arch_prctl_call, clock_gettime_call}
+
+-- the calls by their numbers (Linux, syscall_64.tbl)
+abbrev pub Numbered : Type 0
+Numbered = ℕ × Call
+
+abbrev pub numbers : List Numbered
+numbers =
+    (3, Close)
+    ∷ (5, Fstat)
+    ∷ (8, Lseek)
+    ∷ (9, Mmap)
+    ∷ (10, Mprotect)
+    ∷ (11, Munmap)
+    ∷ (12, Brk)
+    ∷ (16, Ioctl)
+    ∷ (28, Madvise)
+    ∷ (39, Getpid)
+    ∷ (60, Exit)
+    ∷ (63, Uname)
+    ∷ (158, ArchPrctl)
+    ∷ (218, SetTidAddress)
+    ∷ (228, ClockGettime)
+    ∷ (231, ExitGroup)
+    ∷ []
+
+-- the call with a number, if there is one
+abbrev pub named : List Numbered → ℕ → Option Call
+named [] number = None
+named (row ∷ rows) number = if number == row.0 then Some row.1 else named rows number
+
+unfoldable pub call_numbered : ℕ → Option Call
+call_numbered number = named numbers number
+
+-- the process and its only thread have this number
+abbrev pub process_id : ℕ
+process_id = 1
+
+-- the guest ends with the low 8 bits of rdi
+abbrev pub exit_call : World → Called
+exit_call w = record { outcome = Exits (rdi w.state.gprs % 2 ^ 8); world = w }
+
+-- what a call does
+abbrev pub act : Call → World → Called
+act Close w = close_call w
+act Fstat w = fstat_call w
+act Lseek w = lseek_call w
+act Mmap w = mmap_call w
+act Mprotect w = mprotect_call w
+act Munmap w = munmap_call w
+act Brk w = brk_call w
+act Ioctl w = ioctl_call w
+act Madvise w = madvise_call w
+act Getpid w = gives process_id w
+act Exit w = exit_call w
+act Uname w = uname_call w
+act ArchPrctl w = arch_prctl_call w
+act SetTidAddress w = gives process_id w
+act ClockGettime w = clock_gettime_call w
+act ExitGroup w = exit_call w
+
+abbrev pub acted : Option Call → World → Called
+acted None w = refuses enosys w
+acted (Some call) w = act call w
+
+-- the system call that the registers ask for
+unfoldable pub called : World → Called
+called w = acted (call_numbered (rax w.state.gprs)) w

@@ -1,0 +1,3 @@
+//! The answer of a call.
+
+pub fn answer() {}

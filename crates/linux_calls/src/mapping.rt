@@ -1,0 +1,1 @@
+//! The calls on the pages of memory.
