@@ -100,6 +100,13 @@ impl Files {
         &self.entries
     }
 
+    /// The most bytes that a file may have.
+    pub fn cap(&self) -> u32
+        ensures { result ≡ self.now.cap }
+    {
+        self.cap
+    }
+
     /// What a descriptor stands for, if it is open.
     pub fn place(&self, fd: u32) -> Option<Place>
         ensures value { result ≡ place_at self.now.places fd }

@@ -30,12 +30,13 @@ page_written old new addr bytes is page = ⊎_elim
 
 -- a write keeps the table
 pub keeps_written : (old new : PagesValue) (addr : ℕ) (bytes : List ℕ) → IsWritten old new addr bytes → KeepsTable old new
-keeps_written old new addr bytes is = record { size = is.size; table = is.table; count = is.count; pages = page_written old new addr bytes is }
+keeps_written old new addr bytes is = record { size = is.size; table = is.table; recent = is.recent; count = is.count; pages = page_written old new addr bytes is }
 
 pub keeps_same : (pages : PagesValue) → KeepsTable pages pages
 keeps_same pages = record {
   size = record { frames = refl; pages = refl };
   table = refl;
+  recent = refl;
   count = refl;
   pages = λ page. inl (record { mark = refl; bytes = λ swap addr on. refl });
 }
@@ -52,6 +53,7 @@ pub keeps_on : (old mid new : PagesValue) → KeepsTable old mid → KeepsTable 
 keeps_on old mid new first second = record {
   size = record { frames = second.size.frames ∙ first.size.frames; pages = second.size.pages ∙ first.size.pages };
   table = second.table ∙ first.table;
+  recent = second.recent ∙ first.recent;
   count = second.count ∙ first.count;
   pages = λ page. page_on old mid new page (first.pages page) (second.pages page);
 }

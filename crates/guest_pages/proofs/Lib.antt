@@ -7,6 +7,7 @@ pub mod Puts
 pub mod Writes
 pub mod Shows
 pub mod Counts
+pub mod Orders
 pub mod Maps
 pub mod Protects
 pub mod Chains
@@ -15,3 +16,4 @@ pub mod Marks
 pub mod Keeps
 pub mod Carries
 pub mod Laws
+pub mod Brings

@@ -1,5 +1,5 @@
 -- Lemmas on a page that is mapped.
-use Rattle.std.proofs.Common.{◌≡◌, ℕ, ◌+◌, ◌/◌, ◌%◌, ◌<◌, ◌≤◌, List, Bool, true, false, cond, Option, Some, None, length, get_or, ◌==◌, refl, sym, ap, ◌∙◌, ⊎_elim, arith, ◌≢◌, is_some, count_by, nat_lt, ◌||◌, MatchOption}
+use Rattle.std.proofs.Common.{◌≡◌, ℕ, ◌+◌, ◌/◌, ◌%◌, ◌<◌, ◌≤◌, List, Bool, true, false, cond, Option, Some, None, length, get_or, ◌==◌, refl, sym, ap, ◌∙◌, ⊎_elim, arith, ◌≢◌, is_some, count_by, nat_lt, ◌||◌, ◌&&◌, [], is_none, MatchOption}
 use Rattle.std.proofs.lemmas.List.{get_or_past, length-set}
 use Rattle.std.proofs.lemmas.Bool.{cases_eq, cases_lt, eq-eqb, false≢true, lt-ltb, le-ltb}
 use Rattle.machine_state.specs.Memory.{page_size}
@@ -12,8 +12,10 @@ use Rattle.guest_pages.specs.Lists.{AreListed}
 use Rattle.guest_pages.specs.Entry.{is_resident, is_in_frame, mark_in, place_byte, IsZeros}
 use Rattle.guest_pages.specs.Table.{Mapped, Table, away_at, in_frame, with_entry}
 use Rattle.guest_pages.specs.Pages.{PagesValue, table_of, byte_of, mark_of, mapped_count, resident_count}
-use Rattle.guest_pages.specs.Changes.{AllResident, IsBlank, IsMapped, with_mark}
-use Rattle.guest_pages.specs.Slots.{LacksPage, IsSeatOf, AreSound, AreShared, CanTake, AreFiled, IsKept, list_of}
+use Rattle.guest_pages.specs.Changes.{AllResident, IsBlank, IsMapped, with_mark, gets_frame}
+use Rattle.guest_pages.specs.Order.{placed}
+use Rattle.guest_pages.proofs.Orders.{ordered_none}
+use Rattle.guest_pages.specs.Slots.{LacksPage, IsSeatOf, AreSound, AreShared, CanTake, AreFiled, IsInOrder, list_of}
 use Rattle.guest_pages.proofs.Counts.{count_by_none, count_by_below}
 use Rattle.guest_pages.proofs.Seats.{seek_none, take_free}
 use Rattle.guest_pages.proofs.Tables.{table_at, table_none, mapped_entry}
@@ -72,13 +74,13 @@ zero_case : (b : Bool) (x y : ℕ) → x ≡ 0 → cond b x y ≡ cond b 0 y
 zero_case true x y h = h
 zero_case false x y h = refl
 
-module _ (pages : PagesValue) (k : ℕ) (entry : Entry) (can : CanTake pages.slots entry.page k) (zeros : IsZeros entry.place) where
-  count_is : (slot : Option Entry) → get_or pages.slots k None ≡ slot → mapped_count (taken pages k entry) ≡ mapped_count pages + cond (is_some (table_of pages entry.page)) 0 1
+module _ (pages : PagesValue) (k : ℕ) (entry : Entry) (recent : List ℕ) (can : CanTake pages.slots entry.page k) (zeros : IsZeros entry.place) where
+  count_is : (slot : Option Entry) → get_or pages.slots k None ≡ slot → mapped_count (taken pages k entry recent) ≡ mapped_count pages + cond (is_some (table_of pages entry.page)) 0 1
   count_is None is =
-      let counts : mapped_count (taken pages k entry) + 0 ≡ mapped_count pages + 1 = rw is at (count_taken pages k entry can.within) in
+      let counts : mapped_count (taken pages k entry recent) + 0 ≡ mapped_count pages + 1 = rw is at (count_taken pages k entry recent can.within) in
       rw (table_none pages entry.page (free_lacks pages.slots entry.page k can is)) (omega arith)
   count_is (Some before) is =
-      let counts : mapped_count (taken pages k entry) + 1 ≡ mapped_count pages + 1 = rw is at (count_taken pages k entry can.within) in
+      let counts : mapped_count (taken pages k entry recent) + 1 ≡ mapped_count pages + 1 = rw is at (count_taken pages k entry recent can.within) in
       rw (table_at pages entry.page k before (taken_seat pages.slots entry.page k before can is) is) (omega arith)
 
   stays : (slot : Option Entry) → get_or pages.slots k None ≡ slot → (mapped : Mapped) → table_of pages entry.page ≡ Some mapped → k ≡ mapped.slot
@@ -94,37 +96,39 @@ module _ (pages : PagesValue) (k : ℕ) (entry : Entry) (can : CanTake pages.slo
       apart (sym (can.here other (rw (sym same) there.1)))
 
   -- the pages where a page of zeros is mapped
-  pub mapped_there : IsMapped pages (taken pages k entry) entry.page entry.perms.0
-  mapped_there = record {
-    size = size_taken pages k entry;
+  pub mapped_there : recent ≡ placed k (is_resident entry.place) pages.recent → IsMapped pages (taken pages k entry recent) entry.page entry.perms.0
+  mapped_there recent_is = record {
+    size = size_taken pages k entry recent;
     entry = entry_mapped k entry;
-    table = table_taken pages k entry can;
+    table = table_taken pages k entry recent can;
     perms_are = refl;
     slot_stays = stays (get_or pages.slots k None) refl;
     slot_within = rw (length-set pages.slots k (let o : Option Entry = Some entry in o)) can.within;
     slot_apart = λ other mapped apart h. apart_from other mapped apart h;
     byte = λ swap i at.
-        (byte_taken pages k entry can swap at ∙ zero_case (at / page_size == entry.page) _ _ (zeros_byte entry.place (swap k) (at % page_size) zeros)) i;
-    marks = mark_taken pages k entry can ∙ ap (with_mark (mark_of pages) entry.page) (zeros_mark entry.place zeros);
+        (byte_taken pages k entry recent can swap at ∙ zero_case (at / page_size == entry.page) _ _ (zeros_byte entry.place (swap k) (at % page_size) zeros)) i;
+    marks = mark_taken pages k entry recent can ∙ ap (with_mark (mark_of pages) entry.page) (zeros_mark entry.place zeros);
+    recent = recent_is;
     count = count_is (get_or pages.slots k None) refl;
   }
 
 -- the page that is mapped gets a frame where there are as many frames as pages
-framed_case : (slot resident : Bool) (free count frames most : ℕ) → resident ≡ (slot || nat_lt 0 free) → free + count ≡ frames → frames ≡ most
-    → (slot ≡ false → count < most) → resident ≡ true
-framed_case true resident free count frames most is shared same below = is
-framed_case false resident free count frames most is shared same below =
+framed_case : (slot resident once : Bool) (free count frames most : ℕ) → resident ≡ (once && (slot || nat_lt 0 free)) → once ≡ true → free + count ≡ frames
+    → frames ≡ most → (slot ≡ false → count < most) → resident ≡ true
+framed_case true resident once free count frames most is at_once shared same below = is ∙ rw at_once refl
+framed_case false resident once free count frames most is at_once shared same below =
     let some : 0 < free = (let fewer = below refl in omega arith) in
-    is ∙ lt-ltb 0 free some
+    is ∙ rw (at_once, lt-ltb 0 free some) refl
 
-pub resident_mapped : (pages : PagesValue) (k free capacity : ℕ) (entry : Entry) → CanTake pages.slots entry.page k → AreShared pages.slots pages.frames free capacity
-    → is_resident entry.place ≡ (is_in_frame (get_or pages.slots k None) || nat_lt 0 free) → pages.frames ≡ length pages.slots → AllResident pages
-    → AllResident (taken pages k entry)
-resident_mapped pages k free capacity entry can shares is same all page =
+pub resident_mapped : (pages : PagesValue) (k free capacity : ℕ) (entry : Entry) (recent : List ℕ) (once : Bool) → CanTake pages.slots entry.page k
+    → AreShared pages.slots pages.frames free capacity → is_resident entry.place ≡ (once && (is_in_frame (get_or pages.slots k None) || nat_lt 0 free))
+    → (pages.frames ≡ length pages.slots → once ≡ true) → pages.frames ≡ length pages.slots → AllResident pages → AllResident (taken pages k entry recent)
+resident_mapped pages k free capacity entry recent once can shares is at_once same all page =
     let resident : is_resident entry.place ≡ true =
-    framed_case (is_in_frame (get_or pages.slots k None)) (is_resident entry.place) free (count_by is_in_frame pages.slots) pages.frames (length pages.slots) is shares.shared same
-    (λ out. count_by_below is_in_frame pages.slots k None can.within out) in
-    let table : table_of (taken pages k entry) page ≡ with_entry (table_of pages) entry.page (Some (entry_mapped k entry)) page = ap (λ (t : Table). t page) (table_taken pages k entry can) in
+    framed_case (is_in_frame (get_or pages.slots k None)) (is_resident entry.place) once free (count_by is_in_frame pages.slots) pages.frames (length pages.slots) is (at_once same)
+    shares.shared same (λ out. count_by_below is_in_frame pages.slots k None can.within out) in
+    let table : table_of (taken pages k entry recent) page ≡ with_entry (table_of pages) entry.page (Some (entry_mapped k entry)) page =
+    ap (λ (t : Table). t page) (table_taken pages k entry recent can) in
     rw table (in_case (page == entry.page) k entry (table_of pages page) resident (all page))
   where
     in_case : (b : Bool) (k : ℕ) (entry : Entry) (other : Option Mapped) → is_resident entry.place ≡ true → away_at other ≡ None → away_at (cond b (Some (entry_mapped k entry)) other) ≡ None
@@ -142,27 +146,34 @@ blank_sound slots blank = record {
 }
 
 -- what the pages keep holds of slots that are all free, all of them in the last list
-pub blank_kept : (slots : List (Option Entry)) (frames free capacity : ℕ) (lists : Lists) → ((i : ℕ) → get_or slots i None ≡ None) → free ≡ frames → frames ≤ capacity
-    → length lists.heads.items ≡ length slots + 1 → length lists.nexts.items ≡ length slots → AreListed lists (λ _. length slots) → IsKept slots frames free capacity lists
-blank_kept slots frames free capacity lists blank all room heads nexts listed =
+pub blank_kept : (slots : List (Option Entry)) (frames free capacity room : ℕ) (lists : Lists) (order : List ℕ) → ((i : ℕ) → get_or slots i None ≡ None) → free ≡ frames
+    → frames ≤ capacity → length lists.heads.items ≡ length slots + 1 → length lists.nexts.items ≡ length slots → AreListed lists (λ _. length slots) → order ≡ [] → 8 ≤ frames
+    → frames ≤ room → IsInOrder slots frames free capacity lists order room
+blank_kept slots frames free capacity room lists order blank all holds heads nexts listed empty eight has_room =
     let none : count_by is_in_frame slots ≡ 0 = count_by_none is_in_frame slots None (λ i h. rw (blank i) refl) in
     record {
-      sound = blank_sound slots blank;
-      shares = record { shared = omega arith; room = room };
-      filed = record {
-        count = heads;
-        numbers = nexts;
-        listed = λ list h.
-            let there = listed list h in
-            record { numbers = there.numbers; is = there.is; has = λ k l. there.has k l ∙ ap (λ (home : ℕ). home == list) (sym (ap (λ (slot : Option Entry). list_of slot (length slots)) (blank k))) };
+      kept = record {
+        sound = blank_sound slots blank;
+        shares = record { shared = omega arith; room = holds };
+        filed = record {
+          count = heads;
+          numbers = nexts;
+          listed = λ list h.
+              let there = listed list h in
+              record { numbers = there.numbers; is = there.is; has = λ k l. there.has k l ∙ ap (λ (home : ℕ). home == list) (sym (ap (λ (slot : Option Entry). list_of slot (length slots)) (blank k))) };
+        };
       };
+      ordered = rw empty (ordered_none slots (λ k. rw (blank k) refl) none);
+      some = eight;
+      room_is = has_room;
     }
 
 -- pages of which no slot holds one
-pub blank_there : (pages : PagesValue) (frames most : ℕ) → ((i : ℕ) → get_or pages.slots i None ≡ None) → pages.frames ≡ frames → length pages.slots ≡ most
+pub blank_there : (pages : PagesValue) (frames most : ℕ) → ((i : ℕ) → get_or pages.slots i None ≡ None) → pages.frames ≡ frames → length pages.slots ≡ most → pages.recent ≡ []
     → IsBlank pages frames most
 unfolding byte_of mapped_count
-blank_there pages frames most blank frames_are pages_are = record {
+blank_there pages frames most blank frames_are pages_are empty = record {
+  recent = empty;
   frames_are = frames_are;
   pages_are = pages_are;
   table = λ page. table_none pages page (blank_lacks pages.slots blank page);
@@ -188,13 +199,32 @@ free_case free count frames shared = ⊎_elim
     (λ (none : free ≤ 0). let all : frames ≤ count = omega arith in le-ltb 0 free none ∙ sym (le-ltb count frames all))
     (cases_lt 0 free)
 
--- the page that is mapped is in a frame where it was or where one was free
-pub framed_there : (pages : PagesValue) (k free capacity : ℕ) (entry : Entry) → CanTake pages.slots entry.page k → AreShared pages.slots pages.frames free capacity
-    → is_resident entry.place ≡ (is_in_frame (get_or pages.slots k None) || nat_lt 0 free)
-    → in_frame (table_of (taken pages k entry) entry.page) ≡ (in_frame (table_of pages entry.page) || nat_lt (resident_count pages) pages.frames)
+once_case : (pages : PagesValue) (page k : ℕ) (slot : Option Entry) → CanTake pages.slots page k → get_or pages.slots k None ≡ slot
+    → is_none (get_or pages.slots k None) ≡ is_none (table_of pages page)
+once_case pages page k None can is = rw (is, table_none pages page (free_lacks pages.slots page k can is)) refl
+once_case pages page k (Some entry) can is = rw (is, table_at pages page k entry (taken_seat pages.slots page k entry can is) is) refl
+
+-- the page that is mapped is in a frame where it gets one at once and one is free
+pub framed_there : (pages : PagesValue) (k free capacity : ℕ) (entry : Entry) (recent : List ℕ) (once : Bool) → CanTake pages.slots entry.page k
+    → AreShared pages.slots pages.frames free capacity → once ≡ (is_none (get_or pages.slots k None) || pages.frames == length pages.slots)
+    → is_resident entry.place ≡ (once && (is_in_frame (get_or pages.slots k None) || nat_lt 0 free))
+    → in_frame (table_of (taken pages k entry recent) entry.page)
+    ≡ (gets_frame pages entry.page && (in_frame (table_of pages entry.page) || nat_lt (resident_count pages) pages.frames))
 unfolding resident_count
-framed_there pages k free capacity entry can shares is =
-    ap (λ (t : Table). in_frame (t entry.page)) (table_taken pages k entry can)
+framed_there pages k free capacity entry recent once can shares at_once is =
+    ap (λ (t : Table). in_frame (t entry.page)) (table_taken pages k entry recent can)
     ∙ mapped_case (table_of pages) entry.page (entry_mapped k entry)
     ∙ is
-    ∙ (λ i. slot_case pages entry.page k (get_or pages.slots k None) can refl i || free_case free (count_by is_in_frame pages.slots) pages.frames shares.shared i)
+    ∙ ap (λ (b : Bool). b && (is_in_frame (get_or pages.slots k None) || nat_lt 0 free)) at_once
+    ∙ (λ i. (once_case pages entry.page k (get_or pages.slots k None) can refl i || pages.frames == length pages.slots)
+    && (slot_case pages entry.page k (get_or pages.slots k None) can refl i || free_case free (count_by is_in_frame pages.slots) pages.frames shares.shared i))
+
+-- a frame is free once a slot's was given up where it had one or another is
+pub freed : (b : Bool) (free free' : ℕ) → free' ≡ free + cond b 1 0 → nat_lt 0 free' ≡ (b || nat_lt 0 free)
+freed true free after is = lt-ltb 0 after (omega arith)
+freed false free after is = ap (λ (n : ℕ). nat_lt 0 n) (let same : after ≡ free = omega arith in same)
+
+-- as many frames as pages
+pub whole_once : (b : Bool) (frames most : ℕ) → frames ≡ most → (b || frames == most) ≡ true
+whole_once true frames most same = refl
+whole_once false frames most same = eq-eqb frames most same

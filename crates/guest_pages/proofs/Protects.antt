@@ -5,21 +5,16 @@ use Rattle.machine_state.specs.Memory.{page_size, Swap, zeroed}
 use Rattle.machine_state.specs.declared.permissions.Perms.{Perms}
 use Rattle.guest_pages.specs.declared.entry.Entry.{Entry}
 use Rattle.std.specs.Option.{option_map}
-use Rattle.guest_pages.specs.declared.entry.Mark.{Mark}
-use Rattle.guest_pages.specs.declared.entry.Mark.TheVariants.{Fresh}
-use Rattle.guest_pages.specs.declared.entry.Place.{Place}
-use Rattle.guest_pages.specs.declared.entry.Place.TheVariants.{Resident, Zeros, Swapped}
 use Rattle.guest_pages.specs.declared.lists.Lists.{Lists}
-use Rattle.guest_pages.specs.Entry.{is_resident, mark_in, IsZeros, IsZeroedEntry, IsZeroedSlot}
+use Rattle.guest_pages.specs.Entry.{mark_in, HasPerms}
 use Rattle.guest_pages.specs.Table.{Mapped, away_at}
 use Rattle.guest_pages.specs.Pages.{PagesValue, seat_byte, table_of, byte_of, mark_of, mapped_count}
-use Rattle.guest_pages.specs.Changes.{AllResident, IsProtected, IsUnmapped, IsZeroed, with_perms, with_mark}
-use Rattle.guest_pages.specs.Slots.{LacksPage, IsSeatOf, AreSound, CanTake, IsKept}
-use Rattle.guest_pages.proofs.Seats.{seek_at, seek_none, seat_at, take_seat}
+use Rattle.guest_pages.specs.Changes.{AllResident, IsProtected, IsUnmapped, with_perms}
+use Rattle.guest_pages.specs.Slots.{LacksPage, IsSeatOf, AreSound, CanTake, IsInOrder}
+use Rattle.guest_pages.proofs.Seats.{seek_at, seek_none, seat_at, take_seat, entry_there}
 use Rattle.guest_pages.proofs.Tables.{table_at, table_none}
-use Rattle.guest_pages.proofs.Takes.{taken, entry_mapped, size_taken, table_taken, table_kept, byte_taken, mark_taken, mark_at, mark_none, with_entry_same, with_mark_same, count_kept}
-use Rattle.guest_pages.proofs.Maps.{zeros_byte}
-use Rattle.guest_pages.proofs.Keeps.{kept_changed}
+use Rattle.guest_pages.proofs.Takes.{taken, entry_mapped, size_taken, table_taken, byte_taken, mark_taken, mark_at, mark_none, with_entry_same, with_mark_same, count_kept}
+use Rattle.guest_pages.proofs.Keeps.{order_changed}
 
 pub byte_seated : (pages : PagesValue) (k : ℕ) (entry : Entry) (swap : Swap) (at : ℕ) → IsSeatOf pages.slots (at / page_size) k → get_or pages.slots k None ≡ Some entry
     → byte_of pages swap at ≡ seat_byte swap (seat_at k entry) (at % page_size)
@@ -34,23 +29,24 @@ module _ (pages : PagesValue) (page k : ℕ) (entry : Entry) (seat : IsSeatOf pa
   mapped : table_of pages entry.page ≡ Some (entry_mapped k entry)
   mapped = rw page_is (table_at pages page k entry seat is)
 
-  byte_case : (swap : Swap) (at : ℕ) → byte_of (taken pages k (record entry { perms = perms })) swap at ≡ byte_of pages swap at
+  byte_case : (swap : Swap) (at : ℕ) → byte_of (taken pages k (record entry { perms = perms }) pages.recent) swap at ≡ byte_of pages swap at
   byte_case swap at = ⊎_elim
       (λ (here : at / page_size ≡ entry.page).
       let there : IsSeatOf pages.slots (at / page_size) k = rw (here, page_is) seat in
-      byte_taken pages k (record entry { perms = perms }) can swap at ∙ rw (eq-eqb (at / page_size) entry.page here) (sym (byte_seated pages k entry swap at there is)))
+      byte_taken pages k (record entry { perms = perms }) pages.recent can swap at ∙ rw (eq-eqb (at / page_size) entry.page here) (sym (byte_seated pages k entry swap at there is)))
       (λ (other : at / page_size ≢ entry.page).
-      byte_taken pages k (record entry { perms = perms }) can swap at ∙ rw (ne_eqb (at / page_size) entry.page other) refl)
+      byte_taken pages k (record entry { perms = perms }) pages.recent can swap at ∙ rw (ne_eqb (at / page_size) entry.page other) refl)
       (cases_eq (at / page_size) entry.page)
 
   -- the pages where the permissions of one changed
-  pub protected_there : IsProtected pages (taken pages k (record entry { perms = perms })) page perms.0
+  pub protected_there : IsProtected pages (taken pages k (record entry { perms = perms }) pages.recent) page perms.0
   protected_there = record {
-    size = size_taken pages k (record entry { perms = perms });
-    table = table_taken pages k (record entry { perms = perms }) can ∙ rw (← page_is, mapped) refl;
+    size = size_taken pages k (record entry { perms = perms }) pages.recent;
+    table = table_taken pages k (record entry { perms = perms }) pages.recent can ∙ rw (← page_is, mapped) refl;
     byte = λ swap i at. byte_case swap at i;
-    marks = mark_taken pages k (record entry { perms = perms }) can ∙ with_mark_same (mark_of pages) entry.page (mark_in entry.place) (rw page_is (mark_at pages page k entry seat is));
-    count = count_kept pages k (record entry { perms = perms }) entry seat.within is;
+    marks = mark_taken pages k (record entry { perms = perms }) pages.recent can ∙ with_mark_same (mark_of pages) entry.page (mark_in entry.place) (rw page_is (mark_at pages page k entry seat is));
+    count = count_kept pages k (record entry { perms = perms }) entry pages.recent seat.within is;
+    recent = refl;
   }
 
 perms_away : (b : Bool) (perms : ℕ) (old other : Option Mapped) → away_at old ≡ None → away_at other ≡ None → away_at (cond b (option_map (with_perms perms) old) other) ≡ None
@@ -64,66 +60,14 @@ protected_resident old new page perms protected all q =
     rw protected.table (perms_away (q == page) perms (table_of old page) (table_of old q) (all page) (all q))
 
 -- what the pages keep holds where a slot's page gets other permissions
-pub protected_kept : (slots : List (Option Entry)) (frames free capacity : ℕ) (lists : Lists) (page k : ℕ) (entry : Entry) (perms : Perms) → IsSeatOf slots page k
-    → get_or slots k None ≡ Some entry → entry.page ≡ page → IsKept slots frames free capacity lists
-    → IsKept (set slots k (Some (record entry { perms = perms }))) frames free capacity lists
-protected_kept slots frames free capacity lists page k entry perms seat is page_is kept =
-    kept_changed slots frames free capacity lists page k entry (record entry { perms = perms }) seat is page_is refl refl kept
+pub protected_kept : (slots : List (Option Entry)) (frames free capacity : ℕ) (lists : Lists) (order : List ℕ) (room page k : ℕ) (entry : Entry) (perms : Perms) → IsSeatOf slots page k
+    → get_or slots k None ≡ Some entry → entry.page ≡ page → IsInOrder slots frames free capacity lists order room
+    → IsInOrder (set slots k (Some (record entry { perms = perms }))) frames free capacity lists order room
+protected_kept slots frames free capacity lists order room page k entry perms seat is page_is kept =
+    order_changed slots frames free capacity lists order room page k entry (record entry { perms = perms }) seat is page_is refl refl kept
 
 pub mapped_seat : (pages : PagesValue) (page : ℕ) → LacksPage pages.slots page → IsSome (table_of pages page) → ⊥
 mapped_seat pages page lacks mapped = false≢true (rw (table_none pages page lacks) at mapped)
-
-zero_case : (b : Bool) (x y : ℕ) → x ≡ 0 → cond b x y ≡ cond b 0 y
-zero_case true x y h = h
-zero_case false x y h = refl
-
-fresh_case : (old new : Place) → IsZeros new → is_resident new ≡ is_resident old → mark_in new ≡ option_map (λ _. Fresh) (mark_in old)
-fresh_case (Resident bytes mark) (Resident zeros other) h same = ap (λ (m : Mark). let o : Option Mark = Some m in o) h.1
-fresh_case Zeros Zeros h same = refl
-fresh_case Swapped Zeros h same = refl
-fresh_case (Resident bytes mark) Zeros h same = absurd (false≢true same)
-fresh_case Zeros (Resident zeros other) h same = absurd (false≢true (sym same))
-fresh_case Swapped (Resident zeros other) h same = absurd (false≢true (sym same))
-fresh_case old Swapped h same = absurd h
-
-module _ (pages : PagesValue) (page k : ℕ) (entry after : Entry) (seat : IsSeatOf pages.slots page k) (is : get_or pages.slots k None ≡ Some entry) (page_is : entry.page ≡ page)
-    (sound : AreSound pages.slots) (zeroes : IsZeroedEntry entry after) where
-  after_is : after.page ≡ page
-  after_is = zeroes.page ∙ page_is
-
-  can_take : CanTake pages.slots after.page k
-  can_take = rw after_is (take_seat pages.slots page k sound.apart seat)
-
-  table_is : table_of pages after.page ≡ Some (entry_mapped k after)
-  table_is = rw (after_is, zeroes.perms, zeroes.resident) (table_at pages page k entry seat is)
-
-  -- the pages where one is filled with zeros
-  pub zeroed_there : IsZeroed pages (taken pages k after) page
-  zeroed_there = record {
-    size = size_taken pages k after;
-    table = table_kept pages k after can_take table_is;
-    byte = λ swap i at.
-        (byte_taken pages k after can_take swap at
-        ∙ zero_case (at / page_size == after.page) _ _ (zeros_byte after.place (swap k) (at % page_size) zeroes.zeros)
-        ∙ ap (λ (q : ℕ). cond (at / page_size == q) 0 (byte_of pages swap at)) after_is) i;
-    marks =
-        mark_taken pages k after can_take
-        ∙ (λ i. with_mark (mark_of pages) (after_is i) (fresh_case entry.place after.place zeroes.zeros zeroes.resident i))
-        ∙ ap (λ (mark : Option Mark). with_mark (mark_of pages) page (option_map (λ _. Fresh) mark)) (sym (mark_at pages page k entry seat is));
-    count = count_kept pages k after entry seat.within is;
-  }
-
-pub zeroed_kept : (slots : List (Option Entry)) (frames free capacity : ℕ) (lists : Lists) (page k : ℕ) (entry after : Entry) → IsSeatOf slots page k
-    → get_or slots k None ≡ Some entry → entry.page ≡ page → IsZeroedEntry entry after → IsKept slots frames free capacity lists
-    → IsKept (set slots k (Some after)) frames free capacity lists
-zeroed_kept slots frames free capacity lists page k entry after seat is page_is zeroes kept =
-    kept_changed slots frames free capacity lists page k entry after seat is page_is zeroes.page zeroes.resident kept
-
--- the slot after it was filled with zeros
-pub zeroed_slot : (old new : Option Entry) (entry : Entry) → old ≡ Some entry → IsZeroedSlot old new → (after : Entry) × (new ≡ Some after) × IsZeroedEntry entry after
-zeroed_slot None new entry is zeroes = cc
-zeroed_slot (Some old) None entry is zeroes = absurd zeroes
-zeroed_slot (Some old) (Some after) entry is zeroes = let same : old ≡ entry = cc in (after, refl, rw same at zeroes)
 
 none_away : (b : Bool) (other : Option Mapped) → away_at other ≡ None → away_at (cond b None other) ≡ None
 none_away true other h = refl
@@ -147,5 +91,18 @@ unmapped_absent pages page lacks = record {
   table = sym (with_entry_same (table_of pages) page None (table_none pages page lacks));
   byte = λ swap i at. absent_byte pages page lacks swap at i;
   marks = sym (with_mark_same (mark_of pages) page None (mark_none pages page lacks));
+  recent = rw (table_none pages page lacks) refl;
   count = rw (table_none pages page lacks) (add-zero (mapped_count pages));
 }
+
+-- the permissions of a slot's page are those of the table
+pub perms_there : (pages : PagesValue) (page k : ℕ) (slot : Option Entry) (perms : Perms) (mapped : Mapped) → IsSeatOf pages.slots page k → slot ≡ get_or pages.slots k None
+    → HasPerms slot perms → table_of pages page ≡ Some mapped → perms.0 ≡ mapped.perms
+perms_there pages page k slot perms mapped seat read has is =
+    let there = entry_there (get_or pages.slots k None) page seat.here in
+    let same : perms ≡ there.0.perms = rw (read, there.1) at has in
+    let entry : ◌≡◌ {A = Option Mapped} (Some (entry_mapped k there.0)) (Some mapped) = sym (table_at pages page k there.0 seat there.1) ∙ is in
+    ap (λ (p : Perms). p.0) same ∙ some_perms (entry_mapped k there.0) mapped entry
+  where
+    some_perms : (a b : Mapped) → ◌≡◌ {A = Option Mapped} (Some a) (Some b) → a.perms ≡ b.perms
+    some_perms a b e = cc

@@ -13,7 +13,7 @@ use Rattle.guest_pages.specs.Entry.{slot_frame, entry_with, slot_with, is_reside
 use Rattle.guest_pages.specs.Table.{blocked, away_at, perms_in}
 use Rattle.guest_pages.specs.Pages.{PagesValue, table_of, byte_of, mark_of, lent}
 use Rattle.guest_pages.specs.Changes.{IsShown, IsWritten, Marks, with_mark, written_marks}
-use Rattle.guest_pages.specs.Slots.{LacksPage, IsSeatOf, CanTake, AreSound, IsKept}
+use Rattle.guest_pages.specs.Slots.{LacksPage, IsSeatOf, CanTake, AreSound, IsInOrder}
 use Rattle.guest_pages.proofs.Seats.{seek_at, entry_there, take_seat}
 use Rattle.guest_pages.proofs.Tables.{table_at, table_none}
 use Rattle.guest_pages.proofs.Takes.{taken, size_taken, byte_taken, mark_taken, table_kept, count_kept}
@@ -23,7 +23,7 @@ use Rattle.machine_state.specs.declared.kinds.Miss.TheVariants.{Away, NonCanonic
 use Rattle.guest_pages.specs.declared.lists.Lists.{Lists}
 use Rattle.guest_pages.specs.declared.entry.Mark.TheVariants.{Written}
 use Rattle.guest_pages.proofs.Marks.{touches_within, written_marks_on}
-use Rattle.guest_pages.proofs.Keeps.{kept_changed}
+use Rattle.guest_pages.proofs.Keeps.{order_changed}
 use Rattle.machine_state.proofs.MemoryLemmas.{length_slice}
 use Rattle.guest_pages.proofs.Puts.{get_or-put_at, test_there, test_elsewhere}
 
@@ -95,14 +95,14 @@ lent_shown pages addr k len part held fits lent =
     shown_there pages addr k len held.bytes part held.seat (rw (held.is, held.place_is) refl) fits held.whole is.is
 
 pub lent_at : (pages : PagesValue) (addr k : ℕ) (entry : Entry) (other : List ℕ) → IsSeatOf pages.slots (addr / page_size) k → get_or pages.slots k None ≡ Some entry
-    → lent pages addr other ≡ taken pages k (entry_with entry (addr % page_size) other)
+    → lent pages addr other ≡ taken pages k (entry_with entry (addr % page_size) other) pages.recent
 unfolding lent
 lent_at pages addr k entry other seat is = rw (seek_at pages.slots (addr / page_size) k entry seat is) refl
 
 -- what the code leaves of a slot whose page was lent
 pub lent_view : (pages : PagesValue) (addr k : ℕ) (slot : Option Entry) (entry : Entry) (other : List ℕ) → IsSeatOf pages.slots (addr / page_size) k
     → get_or pages.slots k None ≡ Some entry → slot ≡ get_or pages.slots k None
-    → ◌≡◌ {A = PagesValue} (record { frames = pages.frames; slots = set pages.slots k (slot_with slot (addr % page_size) other) }) (lent pages addr other)
+    → ◌≡◌ {A = PagesValue} (record { frames = pages.frames; slots = set pages.slots k (slot_with slot (addr % page_size) other); recent = pages.recent }) (lent pages addr other)
 lent_view pages addr k slot entry other seat is read = rw (read, is) (sym (lent_at pages addr k entry other seat is))
 
 byte_at : (pages : PagesValue) (addr k : ℕ) (held : IsHeld pages addr k) (swap : Swap) (at : ℕ) → addr / page_size ≡ at / page_size
@@ -114,24 +114,24 @@ module _ (pages : PagesValue) (addr k : ℕ) (held : IsHeld pages addr k) (sound
   can : CanTake pages.slots held.entry.page k
   can = rw held.page_is (take_seat pages.slots (addr / page_size) k sound.apart held.seat)
 
-  table_same : table_of (taken pages k (entry_with held.entry (addr % page_size) other)) ≡ table_of pages
+  table_same : table_of (taken pages k (entry_with held.entry (addr % page_size) other) pages.recent) ≡ table_of pages
   table_same =
-      table_kept pages k (entry_with held.entry (addr % page_size) other) can
+      table_kept pages k (entry_with held.entry (addr % page_size) other) pages.recent can
       (rw held.page_is (table_at pages (addr / page_size) k held.entry held.seat held.is ∙ rw held.place_is refl))
 
-  byte_case : (swap : Swap) (at : ℕ) → byte_of (taken pages k (entry_with held.entry (addr % page_size) other)) swap at ≡ written (byte_of pages swap) addr other at
+  byte_case : (swap : Swap) (at : ℕ) → byte_of (taken pages k (entry_with held.entry (addr % page_size) other) pages.recent) swap at ≡ written (byte_of pages swap) addr other at
   byte_case swap at = ⊎_elim
       (λ (here : addr / page_size ≡ at / page_size).
       let test : (at / page_size == held.entry.page) ≡ true = eq-eqb (at / page_size) held.entry.page (sym here ∙ sym held.page_is) in
       let index : at % page_size - addr % page_size ≡ at - addr = omega arith in
       let room : addr % page_size + length other ≤ length held.bytes = rw held.whole fits in
-      byte_taken pages k (entry_with held.entry (addr % page_size) other) can swap at
+      byte_taken pages k (entry_with held.entry (addr % page_size) other) pages.recent can swap at
       ∙ rw (test, held.place_is)
       (get_or-put_at held.bytes (addr % page_size) (at % page_size) other room
       ∙ (λ i. cond (test_there addr at (length other) here i) (get_or other (index i) 0) (sym (byte_at pages addr k held swap at here) i))))
       (λ (there : addr / page_size ≡ at / page_size → ⊥).
       let test : (at / page_size == held.entry.page) ≡ false = ne_eqb (at / page_size) held.entry.page (λ same. there (sym (same ∙ held.page_is))) in
-      byte_taken pages k (entry_with held.entry (addr % page_size) other) can swap at
+      byte_taken pages k (entry_with held.entry (addr % page_size) other) pages.recent can swap at
       ∙ rw (test, test_elsewhere addr at (length other) fits there) refl)
       (cases_eq (addr / page_size) (at / page_size))
 
@@ -145,20 +145,21 @@ module _ (pages : PagesValue) (addr k : ℕ) (held : IsHeld pages addr k) (sound
       rw (ne_eqb page held.entry.page apart, touches_within addr (length other) page some fits, ne_eqb page (addr / page_size) off) refl)
       (cases_eq page held.entry.page)
 
-  marks_are : mark_of (taken pages k (entry_with held.entry (addr % page_size) other)) ≡ written_marks (mark_of pages) addr (length other)
+  marks_are : mark_of (taken pages k (entry_with held.entry (addr % page_size) other) pages.recent) ≡ written_marks (mark_of pages) addr (length other)
   marks_are =
-      mark_taken pages k (entry_with held.entry (addr % page_size) other) can
+      mark_taken pages k (entry_with held.entry (addr % page_size) other) pages.recent can
       ∙ ap (with_mark (mark_of pages) held.entry.page) (ap (λ (place : Place). mark_in (place_with (place_marked place) (addr % page_size) other)) held.place_is)
       ∙ (λ i page. marks_at page i)
 
   -- the pages as they are once a part that was lent is written
   pub written_there : IsWritten pages (lent pages addr other) addr other
   written_there = rw (lent_at pages addr k held.entry other held.seat held.is) (record {
-    size = size_taken pages k (entry_with held.entry (addr % page_size) other);
+    size = size_taken pages k (entry_with held.entry (addr % page_size) other) pages.recent;
     table = table_same;
     byte = λ swap i at. byte_case swap at i;
     marks = marks_are;
-    count = count_kept pages k (entry_with held.entry (addr % page_size) other) held.entry held.seat.within held.is;
+    recent = refl;
+    count = count_kept pages k (entry_with held.entry (addr % page_size) other) held.entry pages.recent held.seat.within held.is;
   })
 
 stays : (place : Place) (at : ℕ) (other : List ℕ) → is_resident (place_with (place_marked place) at other) ≡ is_resident place
@@ -167,11 +168,11 @@ stays Zeros at other = refl
 stays Swapped at other = refl
 
 -- what the pages keep of their slots holds whatever is written to the part that was lent
-pub lent_kept : (slots : List (Option Entry)) (frames free capacity : ℕ) (lists : Lists) (page k at : ℕ) (entry : Entry) (other : List ℕ) → IsSeatOf slots page k
-    → get_or slots k None ≡ Some entry → entry.page ≡ page → IsKept slots frames free capacity lists
-    → IsKept (set slots k (Some (entry_with entry at other))) frames free capacity lists
-lent_kept slots frames free capacity lists page k at entry other seat is page_is kept =
-    kept_changed slots frames free capacity lists page k entry (entry_with entry at other) seat is page_is refl (stays entry.place at other) kept
+pub lent_kept : (slots : List (Option Entry)) (frames free capacity : ℕ) (lists : Lists) (order : List ℕ) (room page k at : ℕ) (entry : Entry) (other : List ℕ) → IsSeatOf slots page k
+    → get_or slots k None ≡ Some entry → entry.page ≡ page → IsInOrder slots frames free capacity lists order room
+    → IsInOrder (set slots k (Some (entry_with entry at other))) frames free capacity lists order room
+lent_kept slots frames free capacity lists order room page k at entry other seat is page_is kept =
+    order_changed slots frames free capacity lists order room page k entry (entry_with entry at other) seat is page_is refl (stays entry.place at other) kept
 
 -- two writes, the second going on where the first ended, are one
 pub writes_on : (old mid new : PagesValue) (addr : ℕ) (bytes : List ℕ) (from end : ℕ) → from ≤ end → end ≤ length bytes → IsWritten old mid addr (take from bytes)
@@ -190,5 +191,6 @@ writes_on old mid new addr bytes from end h l first second = record {
       second.marks
       ∙ ap (λ (marks : Marks). written_marks marks (addr + from) (length (slice_range bytes from end))) first.marks
       ∙ rw (front, part, whole) (written_marks_on (mark_of old) addr from end h);
+  recent = second.recent ∙ first.recent;
   count = second.count ∙ first.count;
 }

@@ -1,11 +1,12 @@
 -- What the calls on pages show and change.
-use Rattle.std.specs.Prelude.{ℕ, ◌≡◌, ◌≢◌, ◌+◌, ◌-◌, ◌/◌, ◌<◌, ◌==◌, ◌⊎◌, Bool, ◌&&◌, if◌then◌else◌, List, length, Option, Some, None, is_some, nat_lt, nat_le}
+use Rattle.std.specs.Prelude.{ℕ, ◌≡◌, ◌≢◌, ◌+◌, ◌-◌, ◌/◌, ◌<◌, ◌==◌, ◌⊎◌, Bool, true, false, ◌&&◌, ◌||◌, ◌%◌, if◌then◌else◌, List, [], ◌∷◌, length, slice_index, Option, Some, None, is_some, is_none, nat_lt, nat_le}
 use Rattle.std.specs.Option.{option_map}
 use Rattle.machine_state.specs.Memory.{page_size, Swap, bytes_at, written, zeroed}
 use Rattle.guest_pages.specs.declared.entry.Mark.{Mark}
-use Rattle.guest_pages.specs.declared.entry.Mark.TheVariants.{Fresh, Written}
+use Rattle.guest_pages.specs.declared.entry.Mark.TheVariants.{Fresh, Saved, Written}
 use Rattle.guest_pages.specs.Table.{Mapped, away_at, with_entry}
-use Rattle.guest_pages.specs.Pages.{PagesValue, table_of, byte_of, mark_of, mapped_count}
+use Rattle.guest_pages.specs.Pages.{PagesValue, table_of, byte_of, mark_of, is_swapped, mapped_count}
+use Rattle.guest_pages.specs.Order.{without, without_page, placed}
 
 -- the numbers of frames and of pages stay
 pub record KeepsSize (old new : PagesValue) : Type 0 where
@@ -17,11 +18,12 @@ pub record KeepsPage (old new : PagesValue) (page : ℕ) : Type 0 where
   pub mark : mark_of new page ≡ mark_of old page
   pub bytes : (swap : Swap) (addr : ℕ) → addr / page_size ≡ page → byte_of new swap addr ≡ byte_of old swap addr
 
--- the same pages are mapped, in the same slots, with the same permissions, and the same of them are in frames; each page
--- stays as it was or is marked as written
+-- the same pages are mapped, in the same slots, with the same permissions, and the same of them are in frames, brought in the same order; each
+-- page stays as it was or is marked as written
 pub record KeepsTable (old new : PagesValue) : Type 0 where
   pub size : KeepsSize old new
   pub table : table_of new ≡ table_of old
+  pub recent : new.recent ≡ old.recent
   pub count : mapped_count new ≡ mapped_count old
   pub pages : (page : ℕ) → KeepsPage old new page ⊎ (mark_of new page ≡ Some Written)
 
@@ -53,6 +55,7 @@ pub record IsBlank (pages : PagesValue) (frames most : ℕ) : Type 0 where
   pub byte : (swap : Swap) (addr : ℕ) → byte_of pages swap addr ≡ 0
   pub marks : (page : ℕ) → mark_of pages page ≡ None
   pub count : mapped_count pages ≡ 0
+  pub recent : pages.recent ≡ []
 
 -- these are the bytes of an access
 pub record IsShown (pages : PagesValue) (addr len : ℕ) (shown : List ℕ) : Type 0 where
@@ -65,10 +68,11 @@ pub record IsWritten (old new : PagesValue) (addr : ℕ) (bytes : List ℕ) : Ty
   pub table : table_of new ≡ table_of old
   pub byte : (swap : Swap) → byte_of new swap ≡ written (byte_of old swap) addr bytes
   pub marks : mark_of new ≡ written_marks (mark_of old) addr (length bytes)
+  pub recent : new.recent ≡ old.recent
   pub count : mapped_count new ≡ mapped_count old
 
 -- a page was mapped as zeros with these permissions, and nothing else changed; a page that was mapped keeps its slot, and
--- a new one gets a slot that no other page has
+-- a new one gets a slot that no other page has; the page's frame is given up, and where it gets one it is first in the order
 pub record IsMapped (old new : PagesValue) (page perms : ℕ) : Type 0 where
   pub size : KeepsSize old new
   pub entry : Mapped
@@ -79,6 +83,7 @@ pub record IsMapped (old new : PagesValue) (page perms : ℕ) : Type 0 where
   pub slot_apart : (other : ℕ) (mapped : Mapped) → other ≢ page → table_of old other ≡ Some mapped → mapped.slot ≢ entry.slot
   pub byte : (swap : Swap) → byte_of new swap ≡ zeroed (byte_of old swap) page
   pub marks : mark_of new ≡ with_mark (mark_of old) page (if entry.resident then Some Fresh else None)
+  pub recent : new.recent ≡ placed entry.slot entry.resident old.recent
   pub count : mapped_count new ≡ mapped_count old + (if is_some (table_of old page) then 0 else 1)
 
 -- a page isn't mapped, and nothing else changed
@@ -87,6 +92,7 @@ pub record IsUnmapped (old new : PagesValue) (page : ℕ) : Type 0 where
   pub table : table_of new ≡ with_entry (table_of old) page None
   pub byte : (swap : Swap) → byte_of new swap ≡ zeroed (byte_of old swap) page
   pub marks : mark_of new ≡ with_mark (mark_of old) page None
+  pub recent : new.recent ≡ without_page (table_of old page) old.recent
   pub count : mapped_count new + (if is_some (table_of old page) then 1 else 0) ≡ mapped_count old
 
 abbrev pub with_perms : ℕ → Mapped → Mapped
@@ -98,12 +104,54 @@ pub record IsProtected (old new : PagesValue) (page perms : ℕ) : Type 0 where
   pub table : table_of new ≡ with_entry (table_of old) page (option_map (with_perms perms) (table_of old page))
   pub byte : (swap : Swap) → byte_of new swap ≡ byte_of old swap
   pub marks : mark_of new ≡ mark_of old
+  pub recent : new.recent ≡ old.recent
   pub count : mapped_count new ≡ mapped_count old
 
--- a mapped page is zeros, as it was mapped, and nothing else changed
-pub record IsZeroed (old new : PagesValue) (page : ℕ) : Type 0 where
+-- a mapped page is mapped anew, with the permissions that it has
+abbrev pub IsZeroed : PagesValue → PagesValue → ℕ → Type 0
+IsZeroed old new page = (mapped : Mapped) → table_of old page ≡ Some mapped → IsMapped old new page mapped.perms
+
+-- whether a page that is mapped now gets a frame at once, where one is free: a new page does, and where there are as many
+-- frames as pages each page does
+abbrev pub gets_frame : PagesValue → ℕ → Bool
+gets_frame pages page = is_none (table_of pages page) || pages.frames == length pages.slots
+
+-- a byte of a page that is away, on the swap or as zeros
+abbrev pub away_byte : Bool → List ℕ → ℕ → ℕ
+away_byte swapped saved at = if swapped then slice_index saved at else 0
+
+-- whether a page in a frame was written since it was put or mapped
+abbrev pub is_unsaved : Option Mark → Bool
+is_unsaved None = false
+is_unsaved (Some Fresh) = false
+is_unsaved (Some Saved) = false
+is_unsaved (Some Written) = true
+
+-- whether a page with this mark is on the swap once it gave its frame up: one that is zeros isn't
+abbrev pub is_kept : Option Mark → Bool
+is_kept None = false
+is_kept (Some Fresh) = false
+is_kept (Some Saved) = true
+is_kept (Some Written) = true
+
+-- a page gave its frame up, and nothing else changed
+pub record IsLeft (old new : PagesValue) (page : ℕ) (mapped : Mapped) : Type 0 where
   pub size : KeepsSize old new
-  pub table : table_of new ≡ table_of old
-  pub byte : (swap : Swap) → byte_of new swap ≡ zeroed (byte_of old swap) page
-  pub marks : mark_of new ≡ with_mark (mark_of old) page (option_map (λ _. Fresh) (mark_of old page))
+  pub table : table_of new ≡ with_entry (table_of old) page (Some (record mapped { resident = false }))
+  pub byte : (swap : Swap) (addr : ℕ) → byte_of new swap addr
+      ≡ (if addr / page_size == page then away_byte (is_kept (mark_of old page)) (swap mapped.slot) (addr % page_size) else byte_of old swap addr)
+  pub marks : mark_of new ≡ with_mark (mark_of old) page None
+  pub swapped : (other : ℕ) → is_swapped new other ≡ (if other == page then is_kept (mark_of old page) else is_swapped old other)
+  pub recent : new.recent ≡ without mapped.slot old.recent
+  pub count : mapped_count new ≡ mapped_count old
+
+-- a page that was away has these bytes in a frame, as the page brought last, and nothing else changed
+pub record IsEntered (old new : PagesValue) (page : ℕ) (mapped : Mapped) (bytes : List ℕ) : Type 0 where
+  pub size : KeepsSize old new
+  pub table : table_of new ≡ with_entry (table_of old) page (Some (record mapped { resident = true }))
+  pub byte : (swap : Swap) (addr : ℕ) → byte_of new swap addr
+      ≡ (if addr / page_size == page then slice_index bytes (addr % page_size) else byte_of old swap addr)
+  pub marks : mark_of new ≡ with_mark (mark_of old) page (Some (if is_swapped old page then Saved else Fresh))
+  pub swapped : (other : ℕ) → is_swapped new other ≡ (if other == page then false else is_swapped old other)
+  pub recent : new.recent ≡ mapped.slot ∷ old.recent
   pub count : mapped_count new ≡ mapped_count old

@@ -1,12 +1,12 @@
 -- A mapped page, and where its bytes are.
-use Rattle.std.specs.Prelude.{ℕ, List, Bool, true, false, Option, Some, None, IsSomeAnd, slice_index, slice_range, length, ◌+◌, ◌==◌, ◌≡◌, All, if◌then◌else◌}
+use Rattle.std.specs.Prelude.{ℕ, List, Bool, true, false, Option, Some, None, slice_index, slice_range, length, ◌+◌, ◌==◌, ◌≡◌, All, if◌then◌else◌}
 use Rattle.machine_state.specs.Memory.{page_size, permits}
 use Rattle.machine_state.specs.declared.kinds.Kind.{Kind}
 use Rattle.machine_state.specs.declared.permissions.Perms.{Perms}
 use Rattle.guest_pages.specs.Bytes.{put_at}
 use Rattle.guest_pages.specs.declared.entry.Entry.{Entry}
 use Rattle.guest_pages.specs.declared.entry.Mark.{Mark}
-use Rattle.guest_pages.specs.declared.entry.Mark.TheVariants.{Fresh, Written}
+use Rattle.guest_pages.specs.declared.entry.Mark.TheVariants.{Fresh, Saved, Written}
 use Rattle.guest_pages.specs.declared.entry.Place.{Place}
 use Rattle.guest_pages.specs.declared.entry.Place.TheVariants.{Resident, Zeros, Swapped}
 
@@ -15,6 +15,12 @@ abbrev pub is_resident : Place → Bool
 is_resident (Resident bytes mark) = true
 is_resident Zeros = false
 is_resident Swapped = false
+
+-- whether a page is away on the swap
+abbrev pub is_on_swap : Place → Bool
+is_on_swap (Resident bytes mark) = false
+is_on_swap Zeros = false
+is_on_swap Swapped = true
 
 -- a byte of a page, by its index; a page on the swap has what the swap holds for it
 abbrev pub place_byte : List ℕ → Place → ℕ → ℕ
@@ -94,13 +100,52 @@ abbrev pub slot_protected : Option Entry → Perms → Option Entry
 slot_protected None perms = None
 slot_protected (Some entry) perms = Some (record entry { perms = perms })
 
--- an entry of the same page and permissions, in a frame or not as before, that is zeros
-pub record IsZeroedEntry (old new : Entry) : Type 0 where
-  pub page : new.page ≡ old.page
-  pub perms : new.perms ≡ old.perms
-  pub resident : is_resident new.place ≡ is_resident old.place
-  pub zeros : IsZeros new.place
+-- the bytes of a page that was written since it was put or mapped
+abbrev pub place_unsaved : Place → Option (List ℕ)
+place_unsaved (Resident bytes Fresh) = None
+place_unsaved (Resident bytes Saved) = None
+place_unsaved (Resident bytes Written) = Some bytes
+place_unsaved Zeros = None
+place_unsaved Swapped = None
 
-abbrev pub IsZeroedSlot : Option Entry → Option Entry → Type 0
-IsZeroedSlot None new = new ≡ None
-IsZeroedSlot (Some old) new = IsSomeAnd new (IsZeroedEntry old)
+abbrev pub slot_unsaved : Option Entry → Option (List ℕ)
+slot_unsaved None = None
+slot_unsaved (Some entry) = place_unsaved entry.place
+
+-- where a page's bytes are once it gave its frame up
+abbrev pub place_left : Place → Place
+place_left (Resident bytes Fresh) = Zeros
+place_left (Resident bytes Saved) = Swapped
+place_left (Resident bytes Written) = Swapped
+place_left Zeros = Zeros
+place_left Swapped = Swapped
+
+abbrev pub entry_left : Entry → Entry
+entry_left entry = record entry { place = place_left entry.place }
+
+abbrev pub slot_left : Option Entry → Option Entry
+slot_left None = None
+slot_left (Some entry) = Some (entry_left entry)
+
+-- a page that was away, with its bytes in a frame
+abbrev pub place_entered : List ℕ → Place → Place
+place_entered bytes (Resident held mark) = Resident held mark
+place_entered bytes Zeros = Resident bytes Fresh
+place_entered bytes Swapped = Resident bytes Saved
+
+abbrev pub entry_entered : List ℕ → Entry → Entry
+entry_entered bytes entry = record entry { place = place_entered bytes entry.place }
+
+abbrev pub slot_entered : List ℕ → Option Entry → Option Entry
+slot_entered bytes None = None
+slot_entered bytes (Some entry) = Some (entry_entered bytes entry)
+
+-- whether a slot holds a page that is away on the swap
+abbrev pub slot_swapped : Option Entry → Bool
+slot_swapped None = false
+slot_swapped (Some entry) = is_on_swap entry.place
+
+-- the permissions of a slot's page
+abbrev pub HasPerms : Option Entry → Perms → Type 0
+HasPerms None perms = ⊥
+HasPerms (Some entry) perms = perms ≡ entry.perms

@@ -10,15 +10,17 @@ pub record AreMapped (table : Table) (pages : List ℕ) : Type 0 where
   pub once : IsDistinct nat_eq pages
   pub has : (page : ℕ) → list_any (λ other. page == other) pages ≡ is_some (table page)
 
--- what the counts of pages count: the mapped pages, no more than there are slots, and those in frames, no more than there
--- are frames
+-- what the counts of pages count: the mapped pages, no more than there are slots, and those in frames, as many as the order
+-- names and no more than there are frames, which are at least eight
 pub record AreCounted (pages : PagesValue) : Type 0 where
   pub mapped : List ℕ
   pub mapped_are : AreMapped (table_of pages) mapped
   pub count : mapped_count pages ≡ length mapped
   pub most : mapped_count pages ≤ length pages.slots
   pub frames : resident_count pages ≡ count_by (λ page. in_frame (table_of pages page)) mapped
+  pub brought : resident_count pages ≡ length pages.recent
   pub room : resident_count pages ≤ pages.frames
+  pub some : 8 ≤ pages.frames
 
 -- each mapped page has a slot of its own
 pub record HaveSlots (pages : PagesValue) : Type 0 where

@@ -6,6 +6,7 @@ pub mod EntryLends
 pub mod Table
 pub mod Walk
 pub mod Pages
+pub mod Order
 pub mod Changes
 pub mod Laws
 pub mod Lists

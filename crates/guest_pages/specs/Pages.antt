@@ -1,16 +1,18 @@
 -- What a contract sees of the pages, and the memory that they stand for.
-use Rattle.std.specs.Prelude.{ℕ, ◌+◌, ◌/◌, ◌%◌, ◌==◌, if◌then◌else◌, List, [], ◌∷◌, Option, Some, None, is_some, count_by, slice_set}
+use Rattle.std.specs.Prelude.{ℕ, Bool, false, ◌+◌, ◌/◌, ◌%◌, ◌==◌, if◌then◌else◌, List, [], ◌∷◌, Option, Some, None, is_some, count_by, slice_set}
 use Rattle.std.specs.Option.{option_map, option_and_then}
 use Rattle.machine_state.specs.Memory.{page_size, Memory, Swap}
 use Rattle.guest_pages.specs.declared.entry.Entry.{Entry}
 use Rattle.guest_pages.specs.declared.entry.Mark.{Mark}
-use Rattle.guest_pages.specs.Entry.{is_resident, is_in_frame, mark_in, place_byte, entry_with}
+use Rattle.guest_pages.specs.Entry.{is_resident, is_in_frame, is_on_swap, mark_in, place_byte, entry_with}
 use Rattle.guest_pages.specs.Table.{Mapped, Table, perms_in}
 
--- the number of frames, and the slots, each of which holds a mapped page or none
+-- the number of frames, the slots, each of which holds a mapped page or none, and the slots of the pages that are in frames,
+-- the one brought last first
 pub record PagesValue : Type 0 where
   pub frames : ℕ
   pub slots : List (Option Entry)
+  pub recent : List ℕ
 
 -- a page with the slot that holds it
 pub record Seat : Type 0 where
@@ -45,6 +47,14 @@ memory_of pages swap = record { perms = perms_in (table_of pages); byte = byte_o
 -- the marks of the mapped pages that are in frames, by page number
 unfoldable pub mark_of : PagesValue → ℕ → Option Mark
 mark_of pages page = option_and_then (λ seat. mark_in seat.entry.place) (seek 0 pages.slots page)
+
+abbrev pub seat_swapped : Option Seat → Bool
+seat_swapped None = false
+seat_swapped (Some seat) = is_on_swap seat.entry.place
+
+-- whether a page is mapped and away on the swap
+unfoldable pub is_swapped : PagesValue → ℕ → Bool
+is_swapped pages page = seat_swapped (seek 0 pages.slots page)
 
 -- how many pages are mapped
 unfoldable pub mapped_count : PagesValue → ℕ

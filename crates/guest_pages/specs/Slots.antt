@@ -1,12 +1,13 @@
 -- What the pages keep of their slots. No public clause cites this module.
-use Rattle.std.specs.Prelude.{ℕ, ◌≡◌, ◌+◌, ◌<◌, ◌≤◌, ◌^◌, ◌/◌, ◌*◌, ◌%◌, List, true, false, Option, Some, None, slice_index_or, length, count_by}
+use Rattle.std.specs.Prelude.{ℕ, ◌≡◌, ◌+◌, ◌<◌, ◌≤◌, ◌^◌, ◌/◌, ◌*◌, ◌%◌, ◌++◌, ◌∷◌, List, [], Bool, if◌then◌else◌, true, false, Option, Some, None, slice_index_or, length, count_by, nat_eq}
+use Rattle.std.specs.List.{IsDistinct}
 use Rattle.machine_state.specs.Memory.{page_size, miss_at, first_miss}
 use Rattle.machine_state.specs.declared.kinds.Kind.{Kind}
 use Rattle.machine_state.specs.declared.kinds.Miss.TheVariants.{Away}
 use Rattle.std.specs.Option.{option_map}
 use Rattle.guest_pages.specs.declared.entry.Entry.{Entry}
 use Rattle.guest_pages.specs.declared.lists.Lists.{Lists}
-use Rattle.guest_pages.specs.Lists.{AreListed}
+use Rattle.guest_pages.specs.Lists.{AreListed, among}
 use Rattle.guest_pages.specs.Entry.{holds_page, is_in_frame}
 use Rattle.guest_pages.specs.Table.{perms_in, first_away}
 use Rattle.guest_pages.specs.Pages.{PagesValue, table_of}
@@ -78,3 +79,20 @@ pub record IsKept (slots : List (Option Entry)) (frames free capacity : ℕ) (li
   pub sound : AreSound slots
   pub shares : AreShared slots frames free capacity
   pub filed : AreFiled slots lists
+
+-- an order with a number put last, if it is
+abbrev pub with_last : Bool → ℕ → List ℕ → List ℕ
+with_last put k order = order ++ (if put then k ∷ [] else [])
+
+-- the numbers in the order are those of the slots whose pages are in frames, each once
+pub record IsOrdered (slots : List (Option Entry)) (order : List ℕ) : Type 0 where
+  pub once : IsDistinct nat_eq order
+  pub has : (k : ℕ) → among k order ≡ is_in_frame (slice_index_or slots k None)
+  pub count : length order ≡ count_by is_in_frame slots
+
+-- and what they keep of the order in which pages were brought; there are at least eight frames
+pub record IsInOrder (slots : List (Option Entry)) (frames free capacity : ℕ) (lists : Lists) (order : List ℕ) (room : ℕ) : Type 0 where
+  pub kept : IsKept slots frames free capacity lists
+  pub ordered : IsOrdered slots order
+  pub some : 8 ≤ frames
+  pub room_is : frames ≤ room

@@ -1,13 +1,14 @@
 //! A mapped page, and where its bytes are.
-ghost use Rattle.std.specs.Prelude.{◌≡◌, ◌≤◌, ◌+◌, None, true, is_some, length, IfSome};
+ghost use Rattle.std.specs.Prelude.{◌≡◌, ◌≤◌, ◌+◌, None, true, false, is_some, length, IfSome};
 ghost use Rattle.std.specs.Borrow.{sem};
 ghost use Rattle.std.specs.Option.{option_copied};
 ghost use Rattle.machine_state.specs.Memory.{page_size};
-ghost use Rattle.guest_pages.specs.Entry.{is_resident, place_marked, place_frame, holds_page, slot_permits, slot_frame, is_in_frame, IsLent, IsZeros, IsZeroedSlot, slot_protected};
+ghost use Rattle.guest_pages.specs.Entry.{is_resident, place_marked, place_frame, holds_page, slot_permits, slot_frame, is_in_frame, IsLent, IsZeros, slot_protected, is_on_swap, place_unsaved, slot_unsaved, place_left, slot_left, place_entered, slot_entered, slot_swapped, HasPerms};
 ghost use Rattle.guest_pages.specs.EntryLends.{LendsPlace, LendsEntry, LendsSlot};
 
 use crate::frame::Frame;
 use machine_state::{Kind, Perms};
+use std::mem::replace;
 
 /// What the bytes of a page in a frame are beside what a swap holds.
 #[derive(Clone, Copy, Debug, PartialEq, Eq)]
@@ -41,20 +42,6 @@ impl Place {
         }
     }
 
-    fn zero(&mut self)
-        ensures resident { is_resident self.new ≡ is_resident self.old }
-        ensures zeros { IsZeros self.new }
-    {
-        match self {
-            Place::Resident(frame, mark) => {
-                frame.clear();
-                *mark = Mark::Fresh;
-            }
-            Place::Zeros => {}
-            Place::Swapped => *self = Place::Zeros,
-        }
-    }
-
     fn frame(&self) -> Option<&Frame>
         ensures { option_copied result ≡ place_frame self.now }
     {
@@ -70,6 +57,61 @@ impl Place {
         match self {
             Place::Resident(frame, _) => Some(frame),
             Place::Zeros | Place::Swapped => None,
+        }
+    }
+
+    fn unsaved(&self) -> Option<&[u8]>
+        ensures bytes { option_copied result ≡ place_unsaved self.now }
+        ensures whole { IfSome result (λ bytes. length bytes.now ≡ page_size) }
+    {
+        match self {
+            Place::Resident(frame, Mark::Written) => Some(frame.all()),
+            Place::Resident(_, Mark::Fresh) => None,
+            Place::Resident(_, Mark::Saved) => None,
+            Place::Zeros => None,
+            Place::Swapped => None,
+        }
+    }
+
+    fn on_swap(&self) -> bool
+        ensures { result ≡ is_on_swap self.now }
+    {
+        match self {
+            Place::Resident(_, _) => false,
+            Place::Zeros => false,
+            Place::Swapped => true,
+        }
+    }
+
+    // Where the page is once it gave its frame up.
+    fn left(&self) -> Place
+        ensures { result ≡ place_left self.now }
+    {
+        match self {
+            Place::Resident(_, Mark::Fresh) => Place::Zeros,
+            Place::Resident(_, Mark::Saved) => Place::Swapped,
+            Place::Resident(_, Mark::Written) => Place::Swapped,
+            Place::Zeros => Place::Zeros,
+            Place::Swapped => Place::Swapped,
+        }
+    }
+
+    fn leave(&mut self) -> Option<Frame>
+        ensures left { self.new ≡ place_left self.old }
+        ensures frame { result ≡ place_frame self.old }
+    {
+        let left = self.left();
+        replace(self, left).into_frame()
+    }
+
+    fn enter(&mut self, frame: Frame)
+        requires { is_resident self.old ≡ false }
+        ensures { self.new ≡ place_entered frame self.old }
+    {
+        match self {
+            Place::Resident(_, _) => unreachable!(),
+            Place::Zeros => *self = Place::Resident(frame, Mark::Fresh),
+            Place::Swapped => *self = Place::Resident(frame, Mark::Saved),
         }
     }
 
@@ -188,12 +230,56 @@ pub(crate) fn protect(slot: &mut Option<Entry>, perms: Perms)
     }
 }
 
-// Fills a slot's page with zeros.
-pub(crate) fn zero(slot: &mut Option<Entry>)
-    ensures { IsZeroedSlot slot.old slot.new }
+// The permissions of a slot's page.
+pub(crate) fn perms_of(slot: &Option<Entry>) -> Perms
+    requires { is_some slot.now ≡ true }
+    ensures { HasPerms slot.now result }
 {
     match slot {
-        Some(entry) => entry.place.zero(),
+        Some(entry) => entry.perms,
+        None => unreachable!(),
+    }
+}
+
+// The bytes of a slot's page that was written since it was put or mapped.
+pub(crate) fn unsaved(slot: &Option<Entry>) -> Option<&[u8]>
+    ensures bytes { option_copied result ≡ slot_unsaved slot.now }
+    ensures whole { IfSome result (λ bytes. length bytes.now ≡ page_size) }
+{
+    match slot {
+        Some(entry) => entry.place.unsaved(),
+        None => None,
+    }
+}
+
+// Whether a slot's page is away on the swap.
+pub(crate) fn on_swap(slot: &Option<Entry>) -> bool
+    ensures { result ≡ slot_swapped slot.now }
+{
+    match slot {
+        Some(entry) => entry.place.on_swap(),
+        None => false,
+    }
+}
+
+// Takes the frame of a slot's page, which is away then.
+pub(crate) fn put_away(slot: &mut Option<Entry>) -> Option<Frame>
+    ensures left { slot.new ≡ slot_left slot.old }
+    ensures frame { result ≡ slot_frame slot.old }
+{
+    match slot {
+        Some(entry) => entry.place.leave(),
+        None => None,
+    }
+}
+
+// Gives a slot's page, which is away, a frame that holds its bytes.
+pub(crate) fn bring_in(slot: &mut Option<Entry>, frame: Frame)
+    requires { is_in_frame slot.old ≡ false }
+    ensures { slot.new ≡ slot_entered frame slot.old }
+{
+    match slot {
+        Some(entry) => entry.place.enter(frame),
         None => {}
     }
 }

@@ -53,18 +53,28 @@ impl Frame {
         self.bytes.slice_mut(at..at + len)
     }
 
-    /// Fills the frame with zeros.
-    pub(crate) fn clear(&mut self)
-        ensures { All (λ byte. byte ≡ 0) self.new }
+    /// All bytes.
+    pub(crate) fn all(&self) -> &[u8]
+        ensures bytes { result.now ≡ self.now }
+        ensures whole { length self.now ≡ page_size }
     {
-        self.bytes.fill(0);
+        &self.bytes
     }
 
     /// The frame filled with zeros.
     pub(crate) fn cleared(mut self) -> Frame
         ensures { All (λ byte. byte ≡ 0) result }
     {
-        self.clear();
+        self.bytes.fill(0);
+        self
+    }
+
+    /// The frame with these bytes.
+    pub(crate) fn filled(mut self, bytes: &[u8]) -> Frame
+        requires { length bytes.now ≡ page_size }
+        ensures { result ≡ bytes.now }
+    {
+        self.bytes.as_mut_slice().copy_from_slice(bytes);
         self
     }
 }

@@ -6,6 +6,7 @@ mod frame;
 mod keeping;
 mod lists;
 mod numbers;
+mod order;
 mod pages;
 mod walking;
 

@@ -1,15 +1,21 @@
 //! The pages of guest memory.
-ghost use Rattle.std.specs.Prelude.{◌≡◌, ◌<◌, ◌≤◌, ◌+◌, ◌-◌, ◌%◌, ◌||◌, None, Some, true, is_some, nat_lt, vec_len, if◌then◌else◌};
+ghost use Rattle.std.specs.Prelude.{◌≡◌, ◌<◌, ◌≤◌, ◌+◌, ◌-◌, ◌%◌, ◌||◌, ◌&&◌, None, Some, true, is_some, is_none, nat_lt, vec_len, if◌then◌else◌};
 ghost use Rattle.std.specs.Option.{option_map};
 ghost use Rattle.std.specs.Vec.{vec_capacity};
 ghost use Rattle.machine_state.specs.declared.kinds.Miss.TheVariants.{Away};
 ghost use Rattle.machine_state.specs.Memory.{page_size, miss_at, or_else};
 ghost use Rattle.guest_pages.specs.Entry.{is_in_frame};
-ghost use Rattle.guest_pages.specs.Slots.{bucket_of, list_of as home_of};
+ghost use Rattle.guest_pages.specs.Slots.{bucket_of, list_of as home_of, with_last};
+ghost use Rattle.guest_pages.specs.Lists.{among};
+ghost use Rattle.guest_pages.specs.Order.{without};
 
-use crate::entry::{Entry, blank, frame_of, grants, holds, lend, protect, release, zero};
+use crate::entry::{
+    Entry, blank, bring_in, frame_of, grants, holds, lend, on_swap, perms_of, protect, put_away,
+    release, unsaved,
+};
 use crate::frame::Frame;
 use crate::lists::{Lists, vacant};
+use crate::order::Order;
 use machine_state::{Kind, Miss, PAGE_SIZE, Perms};
 use std::alloc::{AllocError, Global};
 use std::marker::Model;
@@ -26,29 +32,36 @@ pub struct Pages {
     slots: Vec<Option<Entry>>,
     lists: Lists,
     free: Vec<Frame>,
+    order: Order,
 }
 
 impl Model for Pages {
-    ghost use Rattle.std.specs.Prelude.{vec_len};
+    ghost use Rattle.std.specs.Prelude.{vec_len, reverse};
     ghost use Rattle.std.specs.Vec.{vec_capacity};
     ghost use Rattle.guest_pages.specs.Pages.{PagesValue};
-    ghost use Rattle.guest_pages.specs.Slots.{IsKept};
+    ghost use Rattle.guest_pages.specs.Slots.{IsInOrder};
 
     ghost Value = { PagesValue };
 
-    ghost view = { λ pages. record { frames = pages.frames; slots = pages.slots.items } };
+    ghost view = { λ pages. record {
+      frames = pages.frames;
+      slots = pages.slots.items;
+      recent = reverse pages.order.slots.items;
+    } };
 
-    ghost invariant = { λ pages. IsKept pages.slots.items pages.frames
-        (vec_len pages.free) (vec_capacity pages.free) pages.lists };
+    ghost invariant = { λ pages. IsInOrder pages.slots.items pages.frames
+        (vec_len pages.free) (vec_capacity pages.free) pages.lists
+        pages.order.slots.items (vec_capacity pages.order.slots) };
 }
 
 impl Pages {
-    ghost use Rattle.std.specs.Prelude.{◌≡◌, ◌<◌, ◌≤◌, ◌+◌, ◌/◌, ◌%◌, ◌^◌, ◌↔◌, ◌||◌, ℕ, List, length, take, slice_range, slice_index_or, nat_lt, None, Some, MatchResult, MatchOption, OnOk, OnErr, IfOk, IsErr, IsSome};
+    ghost use Rattle.std.specs.Prelude.{◌≡◌, ◌<◌, ◌≤◌, ◌+◌, ◌/◌, ◌%◌, ◌^◌, ◌↔◌, ◌||◌, ◌&&◌, ℕ, List, length, take, slice_range, slice_index_or, nat_lt, None, Some, MatchResult, MatchOption, OnOk, OnErr, IfOk, IsErr, IsSome};
     ghost use Rattle.std.specs.Borrow.{sem};
     ghost use Rattle.machine_state.specs.Memory.{first_miss, miss_at};
     ghost use Rattle.guest_pages.specs.Table.{perms_in, blocked, answer_of, in_frame};
     ghost use Rattle.guest_pages.specs.Pages.{table_of, mapped_count, resident_count, lent};
-    ghost use Rattle.guest_pages.specs.Changes.{AllResident, IsBlank, IsShown, IsWritten, IsMapped, IsUnmapped, IsProtected, IsZeroed};
+    ghost use Rattle.guest_pages.specs.Changes.{AllResident, IsBlank, IsShown, IsWritten, IsMapped, IsUnmapped, IsProtected, IsZeroed, gets_frame};
+    ghost use Rattle.guest_pages.specs.Order.{AreOrdered};
     ghost use Rattle.guest_pages.specs.Laws.{AreCounted, HaveSlots, FitMemory};
     ghost use Rattle.guest_pages.specs.Slots.{LacksPage, IsSeatOf, IsGranted, CanTake, IsWalked};
     ghost use Rattle.guest_pages.specs.Entry.{away_slot_of};
@@ -67,11 +80,13 @@ impl Pages {
         for _ in 0..frames {
             free.push_reserved(Frame::new(alloc)?);
         }
+        let order = Order::new(alloc, frames as usize)?;
         Ok(Pages {
             frames,
             slots,
             lists,
             free,
+            order,
         })
     }
 
@@ -81,6 +96,7 @@ impl Pages {
         ensures counts { AreCounted self.now }
         ensures slots { HaveSlots self.now }
         ensures memory { FitMemory self.now }
+        ensures ordered { AreOrdered self.now }
     {
         self.slots.len()
     }
@@ -298,20 +314,24 @@ impl Pages {
         }
     }
 
-    // Gives slot k to a page of zeros, in the frame of the page that the slot held, or in one that is free.
+    // Gives slot k to a page of zeros, which is brought where it gets a frame at once. The frame of the page that the slot
+    // held is given up.
     fn fill(&mut self, k: u32, page: u64, perms: Perms)
         requires can { CanTake self.old.slots page k }
         requires low { page < 0x800000000 }
         ensures mapped { IsMapped self.old self.new page perms.0 }
-        ensures framed { in_frame (table_of self.new page) ≡ (in_frame (table_of self.old page)
-            || nat_lt (resident_count self.old) self.old.frames) }
+        ensures framed { in_frame (table_of self.new page) ≡ (gets_frame self.old page
+            && (in_frame (table_of self.old page) || nat_lt (resident_count self.old) self.old.frames)) }
         ensures resident { self.old.frames ≡ length self.old.slots → AllResident self.old → AllResident self.new }
         ensures room { resident_count self.new ≤ self.new.frames }
     {
         let buckets = self.slots.len();
+        let whole = self.frames as usize == buckets;
         let slot = &mut self.slots[k as usize];
         let from = list_of(slot, buckets);
-        let frame = take_frame(slot, &mut self.free);
+        let at_once = has_frame_at_once(slot, whole);
+        give_frame(slot, k, &mut self.free, &mut self.order);
+        let frame = frame_for(k, at_once, &mut self.free, &mut self.order);
         *slot = Some(Entry {
             page,
             perms,
@@ -320,7 +340,7 @@ impl Pages {
         self.lists.shift(k, from, bucket(page, buckets));
     }
 
-    // Takes a slot's page out, and keeps its frame.
+    // Takes a slot's page out, and gives its frame up.
     fn empty(&mut self, k: u32, page: u64)
         requires { IsSeatOf self.old.slots page k }
         ensures { IsUnmapped self.old self.new page }
@@ -328,11 +348,12 @@ impl Pages {
         let buckets = self.slots.len();
         let slot = &mut self.slots[k as usize];
         let from = list_of(slot, buckets);
-        give_frame(slot, &mut self.free);
+        give_frame(slot, k, &mut self.free, &mut self.order);
         self.lists.shift(k, from, buckets);
     }
 
-    /// Maps the page at the address `addr` as zeros; what was mapped there is gone.
+    /// Maps the page at the address `addr` as zeros; what was mapped there is gone, and its frame is given up. Where the page
+    /// gets a frame at once it is the page brought last.
     pub fn map_page(&mut self, addr: u64, perms: Perms) -> Result<(), Full>
         requires page { addr % page_size ≡ 0 }
         requires low { addr < 0x800000000000 }
@@ -341,10 +362,10 @@ impl Pages {
             × (mapped_count self.old ≡ length self.old.slots)) }
         ensures err { OnErr result (self.new ≡ self.old) }
 
-        // A page that was in a frame keeps it, and another gets one where one is free.
+        // The page gets a frame at once by `gets_frame`, where one is free once its own was given up.
         ensures framed { OnOk result (in_frame (table_of self.new (addr / page_size))
-            ≡ (in_frame (table_of self.old (addr / page_size))
-            || nat_lt (resident_count self.old) self.old.frames)) }
+            ≡ (gets_frame self.old (addr / page_size) && (in_frame (table_of self.old (addr / page_size))
+            || nat_lt (resident_count self.old) self.old.frames))) }
         ensures resident { self.old.frames ≡ length self.old.slots → AllResident self.old → AllResident self.new }
         ensures room { OnOk result (resident_count self.new ≤ self.new.frames) }
     {
@@ -385,45 +406,79 @@ impl Pages {
         }
     }
 
-    /// Fills the mapped page at the address `addr` with zeros.
+    /// Maps the mapped page at the address `addr` anew, as zeros, with its permissions. Its frame is given up, and where it
+    /// gets one at once it is the page brought last.
     pub fn zero_page(&mut self, addr: u64)
         requires page { addr % page_size ≡ 0 }
         requires low { addr < 0x800000000000 }
         requires mapped { IsSome (table_of self.old (addr / page_size)) }
         ensures zeroed { IsZeroed self.old self.new (addr / page_size) }
-        ensures resident { AllResident self.old → AllResident self.new }
+        ensures framed { in_frame (table_of self.new (addr / page_size))
+            ≡ (gets_frame self.old (addr / page_size) && (in_frame (table_of self.old (addr / page_size))
+            || nat_lt (resident_count self.old) self.old.frames)) }
+        ensures resident { self.old.frames ≡ length self.old.slots → AllResident self.old → AllResident self.new }
+        ensures room { resident_count self.new ≤ self.new.frames }
     {
         match self.seat(addr / PAGE_SIZE) {
-            Some(k) => zero(&mut self.slots[k as usize]),
+            Some(k) => {
+                let perms = perms_of(&self.slots[k as usize]);
+                self.fill(k, addr / PAGE_SIZE, perms);
+            }
             None => unreachable!(),
         }
     }
 }
 
-// Empties a slot, and puts the frame of its page, if it has one, to the free ones, where there is room for it.
-fn give_frame(slot: &mut Option<Entry>, free: &mut Vec<Frame>)
-    requires { is_in_frame slot.old ≡ true → vec_len free.old < vec_capacity free.old }
+// Whether a slot's page, once it is mapped as zeros, gets a frame at once where one is free. Until the run brings pages, a
+// page that wasn't mapped does, and so does each page where there are as many frames as pages, so that none is away then.
+// Once the run brings each page, none does.
+fn has_frame_at_once(slot: &Option<Entry>, whole: bool) -> bool
+    ensures { result ≡ (is_none slot.now || whole) }
+{
+    match slot {
+        Some(_) => whole,
+        None => true,
+    }
+}
+
+// Empties slot k, puts the frame of its page, if it has one, to the free ones, where there is room for it, and takes the page
+// out of the order.
+fn give_frame(slot: &mut Option<Entry>, k: u32, free: &mut Vec<Frame>, order: &mut Order)
+    requires room { is_in_frame slot.old ≡ true → vec_len free.old < vec_capacity free.old }
+    requires listed { among k order.old.slots.items ≡ is_in_frame slot.old }
     ensures emptied { slot.new ≡ None }
     ensures count { vec_len free.new ≡ vec_len free.old + (if is_in_frame slot.old then 1 else 0) }
     ensures capacity { vec_capacity free.new ≡ vec_capacity free.old }
+    ensures order { order.new.slots.items ≡ without k order.old.slots.items }
+    ensures order_capacity { vec_capacity order.new.slots ≡ vec_capacity order.old.slots }
 {
     match release(slot) {
-        Some(frame) => free.push_reserved(frame),
+        Some(frame) => {
+            free.push_reserved(frame);
+            order.take_out(k);
+        }
         None => {}
     }
 }
 
-// Takes a slot's page out, and gives its frame, or else one that is free.
-fn take_frame(slot: &mut Option<Entry>, free: &mut Vec<Frame>) -> Option<Frame>
-    ensures emptied { slot.new ≡ None }
-    ensures frame { is_some result ≡ (is_in_frame slot.old || nat_lt 0 (vec_len free.old)) }
-    ensures count { vec_len free.new + (if is_some result then 1 else 0)
-        ≡ vec_len free.old + (if is_in_frame slot.old then 1 else 0) }
+// Takes a free frame for slot k, whose page is the one brought last then.
+fn frame_for(k: u32, at_once: bool, free: &mut Vec<Frame>, order: &mut Order) -> Option<Frame>
+    requires { 0 < vec_len free.old → vec_len order.old.slots < vec_capacity order.old.slots }
+    ensures frame { is_some result ≡ (at_once && nat_lt 0 (vec_len free.old)) }
+    ensures count { vec_len free.new + (if is_some result then 1 else 0) ≡ vec_len free.old }
     ensures capacity { vec_capacity free.new ≡ vec_capacity free.old }
+    ensures order { order.new.slots.items ≡ with_last (is_some result) k order.old.slots.items }
+    ensures order_capacity { vec_capacity order.new.slots ≡ vec_capacity order.old.slots }
 {
-    match release(slot) {
-        Some(frame) => Some(frame),
-        None => free.pop(),
+    if !at_once {
+        return None;
+    }
+    match free.pop() {
+        Some(frame) => {
+            order.put(k);
+            Some(frame)
+        }
+        None => None,
     }
 }
 
@@ -484,5 +539,7 @@ fn list_of(slot: &Option<Entry>, buckets: usize) -> usize
     }
 }
 
+mod bringing;
+mod kernel;
 #[cfg(test)]
 mod tests;

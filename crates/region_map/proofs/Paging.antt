@@ -1,5 +1,5 @@
 -- Pages where a range of them changes.
-use Rattle.std.proofs.Common.{◌≡◌, ◌≢◌, ℕ, ◌+◌, ◌/◌, ◌≤◌, ◌<◌, ◌==◌, Bool, true, false, cond, ◌||◌, length, Option, Some, None, is_some, IsSome, refl, sym, ◌∙◌, ap, subst, arith, ⊎_elim}
+use Rattle.std.proofs.Common.{◌≡◌, ◌≢◌, ℕ, ◌+◌, ◌/◌, ◌≤◌, ◌<◌, ◌==◌, Bool, true, false, cond, ◌||◌, ◌&&◌, is_none, length, Option, Some, None, is_some, IsSome, refl, sym, ◌∙◌, ap, subst, arith, ⊎_elim}
 use Rattle.std.proofs.lemmas.Bool.{cases_eq, eq-eqb, ne_eqb}
 use Rattle.std.proofs.lemmas.Bool.Decides.{nat_tests, Decides-eqb}
 use Rattle.std.specs.Option.{option_map}
@@ -8,7 +8,7 @@ use Rattle.machine_state.specs.declared.permissions.Perms.{Perms}
 use Rattle.guest_pages.specs.declared.entry.Mark.{Mark}
 use Rattle.guest_pages.specs.Table.{Mapped, Table, with_entry, in_frame}
 use Rattle.guest_pages.specs.Pages.{PagesValue, table_of, byte_of, mark_of, mapped_count}
-use Rattle.guest_pages.specs.Changes.{KeepsSize, KeepsPage, IsMapped, IsUnmapped, IsProtected, with_perms, with_mark}
+use Rattle.guest_pages.specs.Changes.{KeepsSize, KeepsPage, IsMapped, IsUnmapped, IsProtected, gets_frame, with_perms, with_mark}
 use Rattle.region_map.specs.declared.kinds.Change.{Change}
 use Rattle.region_map.specs.declared.kinds.Change.TheVariants.{Map, Unmap, Protect}
 use Rattle.region_map.specs.Ranges.{page_end, is_in}
@@ -52,8 +52,12 @@ zero_in : (old new : PagesValue) (page : ℕ) → ((swap : Swap) → byte_of new
 zero_in old new page byte swap addr e = let there : (addr / page_size == page) ≡ true = eq-eqb (addr / page_size) page e in
     ap (λ (f : ℕ → ℕ). f addr) (byte swap) ∙ rw there refl
 
+or_right : (b : Bool) → ((b || true) && true) ≡ true
+or_right true = refl
+or_right false = refl
+
 pub map_changes : (old new : PagesValue) (page : ℕ) (perms : Perms) (file more : Bool) → IsMapped old new page perms.0
-    → in_frame (table_of new page) ≡ (in_frame (table_of old page) || more) → AreChanged (Map perms file) (λ other. other == page) old new
+    → in_frame (table_of new page) ≡ (gets_frame old page && (in_frame (table_of old page) || more)) → AreChanged (Map perms file) (λ other. other == page) old new
 map_changes old new page perms file more m framed = record {
   size = m.size;
   inside = λ other e. subst (λ (p : ℕ). IsFresh old new perms.0 p) (sym (is_eq other page e)) fresh;
@@ -69,7 +73,7 @@ map_changes old new page perms file more m framed = record {
       table = here;
       perms_are = m.perms_are;
       slot_stays = m.slot_stays;
-      frame_stays = λ e. sym (ap in_frame here) ∙ framed ∙ rw e refl;
+      frame_stays = λ same e. sym (ap in_frame here) ∙ framed ∙ rw (e, eq-eqb old.frames (length old.slots) same) (or_right (is_none (table_of old page)));
       bytes = zero_in old new page m.byte;
       mark = mark_in old new page _ m.marks;
     }
@@ -152,18 +156,18 @@ stay_both old between new page a b = record {
   kept = record { mark = b.kept.mark ∙ a.kept.mark; bytes = λ swap addr e. b.kept.bytes swap addr e ∙ a.kept.bytes swap addr e };
 }
 
-pub stay_change : (change : Change) (old between new : PagesValue) (page : ℕ) → Stays old between page → IsChanged change between new page → IsChanged change old new page
-stay_change (Map perms file) old between new page a b = record {
+pub stay_change : (change : Change) (old between new : PagesValue) (page : ℕ) → KeepsSize old between → Stays old between page → IsChanged change between new page → IsChanged change old new page
+stay_change (Map perms file) old between new page size a b = record {
   entry = b.entry;
   table = b.table;
   perms_are = b.perms_are;
   slot_stays = λ mapped e. b.slot_stays mapped (a.table ∙ e);
-  frame_stays = λ e. b.frame_stays (ap in_frame a.table ∙ e);
+  frame_stays = λ same e. b.frame_stays (size.frames ∙ same ∙ sym size.pages) (ap in_frame a.table ∙ e);
   bytes = b.bytes;
   mark = b.mark;
 }
-stay_change Unmap old between new page a b = b
-stay_change (Protect perms) old between new page a b = record {
+stay_change Unmap old between new page size a b = b
+stay_change (Protect perms) old between new page size a b = record {
   table = b.table ∙ ap (option_map (with_perms perms.0)) a.table;
   kept = record { mark = b.kept.mark ∙ a.kept.mark; bytes = λ swap addr e. b.kept.bytes swap addr e ∙ a.kept.bytes swap addr e };
 }
@@ -188,18 +192,18 @@ change_stay (Protect perms) old between new page a b = record {
   kept = record { mark = b.kept.mark ∙ a.kept.mark; bytes = λ swap addr e. b.kept.bytes swap addr e ∙ a.kept.bytes swap addr e };
 }
 
-change_twice : (change : Change) (old between new : PagesValue) (page : ℕ) → IsChanged change old between page → IsChanged change between new page → IsChanged change old new page
-change_twice (Map perms file) old between new page a b = record {
+change_twice : (change : Change) (old between new : PagesValue) (page : ℕ) → KeepsSize old between → IsChanged change old between page → IsChanged change between new page → IsChanged change old new page
+change_twice (Map perms file) old between new page size a b = record {
   entry = b.entry;
   table = b.table;
   perms_are = b.perms_are;
   slot_stays = λ mapped e. b.slot_stays a.entry a.table ∙ a.slot_stays mapped e;
-  frame_stays = λ e. b.frame_stays (ap in_frame a.table ∙ a.frame_stays e);
+  frame_stays = λ same e. b.frame_stays (size.frames ∙ same ∙ sym size.pages) (ap in_frame a.table ∙ a.frame_stays same e);
   bytes = b.bytes;
   mark = b.mark;
 }
-change_twice Unmap old between new page a b = b
-change_twice (Protect perms) old between new page a b = record {
+change_twice Unmap old between new page size a b = b
+change_twice (Protect perms) old between new page size a b = record {
   table = b.table ∙ ap (option_map (with_perms perms.0)) a.table ∙ twice (table_of old page);
   kept = record { mark = b.kept.mark ∙ a.kept.mark; bytes = λ swap addr e. b.kept.bytes swap addr e ∙ a.kept.bytes swap addr e };
 }
@@ -217,9 +221,9 @@ change_both change some others all old between new a b is = record {
 }
   where
     inside : (page : ℕ) (x y : Bool) → some page ≡ x → others page ≡ y → (x || y) ≡ true → IsChanged change old new page
-    inside page true true e f h = change_twice change old between new page (a.inside page e) (b.inside page f)
+    inside page true true e f h = change_twice change old between new page a.size (a.inside page e) (b.inside page f)
     inside page true false e f h = change_stay change old between new page (a.inside page e) (b.outside page f)
-    inside page false true e f h = stay_change change old between new page (a.outside page e) (b.inside page f)
+    inside page false true e f h = stay_change change old between new page a.size (a.outside page e) (b.inside page f)
     inside page false false e f h = cc
 
     outside : (page : ℕ) (x y : Bool) → some page ≡ x → others page ≡ y → (x || y) ≡ false → Stays old new page

@@ -1,5 +1,5 @@
 -- What the pages are where a range of them changes.
-use Rattle.std.specs.Prelude.{ℕ, ◌≡◌, ◌/◌, Bool, true, false, if◌then◌else◌, Some, None}
+use Rattle.std.specs.Prelude.{ℕ, ◌≡◌, ◌/◌, Bool, true, false, if◌then◌else◌, length, Some, None}
 use Rattle.std.specs.Option.{option_map}
 use Rattle.machine_state.specs.Memory.{page_size, Swap}
 use Rattle.guest_pages.specs.declared.entry.Mark.TheVariants.{Fresh}
@@ -9,14 +9,14 @@ use Rattle.guest_pages.specs.Changes.{KeepsSize, KeepsPage, with_perms}
 use Rattle.region_map.specs.declared.kinds.Change.{Change}
 use Rattle.region_map.specs.declared.kinds.Change.TheVariants.{Map, Unmap, Protect}
 
--- a page is mapped as zeros with these permissions; where it was mapped it keeps its slot, and where it was in a frame it is
--- in one
+-- a page is mapped as zeros with these permissions; where it was mapped it keeps its slot, and where it was in a frame and
+-- there are as many frames as pages it is in one
 pub record IsFresh (old new : PagesValue) (perms page : ℕ) : Type 0 where
   pub entry : Mapped
   pub table : table_of new page ≡ Some entry
   pub perms_are : entry.perms ≡ perms
   pub slot_stays : (mapped : Mapped) → table_of old page ≡ Some mapped → entry.slot ≡ mapped.slot
-  pub frame_stays : in_frame (table_of old page) ≡ true → entry.resident ≡ true
+  pub frame_stays : old.frames ≡ length old.slots → in_frame (table_of old page) ≡ true → entry.resident ≡ true
   pub bytes : (swap : Swap) (addr : ℕ) → addr / page_size ≡ page → byte_of new swap addr ≡ 0
   pub mark : mark_of new page ≡ (if entry.resident then Some Fresh else None)
 

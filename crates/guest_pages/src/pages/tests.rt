@@ -198,8 +198,11 @@ fn a_page_beyond_the_frames_is_away(rt: HostRuntime) -> Result<(), Fail> {
     assert!(rt; matches!(pages.write(0x8FFF, &[1, 2]), Err(Miss::Away(_))));
     assert_eq!(rt; byte_at(&pages, 0x8FFF), Ok(0));
 
-    // A frame that becomes free serves the next page that is mapped.
+    // A frame that becomes free serves the next new page that is mapped, and no page that is mapped anew.
     pages.unmap_page(0x1000);
+    pages.map_page(0x9000, BOTH)?;
+    assert!(rt; matches!(pages.write(0x8FFF, &[1, 2]), Err(Miss::Away(_))));
+    pages.unmap_page(0x9000);
     pages.map_page(0x9000, BOTH)?;
     assert_eq!(rt; pages.write(0x8FFF, &[1, 2]), Ok(()));
     assert_eq!(rt; byte_at(&pages, 0x9000), Ok(2));

@@ -8,14 +8,14 @@ pub returns-then-grants : goal.returns-then-grants
 returns-then-grants c =
     rw (← c.self.view_is)
     (let seat : IsSeatOf c.self.inside.slots.items _ c.in-Some.k = rw (← c.self.view_is) at c.in-Some.ensures in
-    granted _ c.args.kind c.args.addr c.in-Some.k c.self.invariant.sound seat
+    granted _ c.args.kind c.args.addr c.in-Some.k c.self.invariant.kept.sound seat
     (rw (← get_or_read c.self.inside.slots.items c.in-Some.k c.index.result.now seat.within c.index.ensures None) (sym c.grants.ensures ∙ c.if-grants.true)))
 
 pub returns-else-grants : goal.returns-else-grants
 returns-else-grants c =
     rw (← c.self.view_is)
     (let seat : IsSeatOf c.self.inside.slots.items _ c.in-Some.k = rw (← c.self.view_is) at c.in-Some.ensures in
-    denied _ c.args.kind c.args.addr c.in-Some.k c.self.invariant.sound seat
+    denied _ c.args.kind c.args.addr c.in-Some.k c.self.invariant.kept.sound seat
     (rw (← get_or_read c.self.inside.slots.items c.in-Some.k c.index.result.now seat.within c.index.ensures None) (sym c.grants.ensures ∙ c.if-grants.false)))
 
 pub returns-in-None : goal.returns-in-None

@@ -15,7 +15,7 @@ invariant_of-self c =
     let there = entry_there (get_or c.self.inside.slots.items c.in-Some.k None) _ seat.here in
     let read = get_or_read c.self.inside.slots.items c.in-Some.k c.index_mut.result.now seat.within c.index_mut.ensures.value None in
     rw (c.protect.ensures, read, there.1)
-    (protected_kept c.self.inside.slots.items _ _ _ _ (c.args.addr / page_size) c.in-Some.k there.0 c.args.perms seat there.1 there.2 c.self.invariant)
+    (protected_kept c.self.inside.slots.items _ _ _ _ _ _ (c.args.addr / page_size) c.in-Some.k there.0 c.args.perms seat there.1 there.2 c.self.invariant)
 
 pub returns-clause-protected : goal.returns-clause-protected
 returns-clause-protected c =
@@ -23,7 +23,7 @@ returns-clause-protected c =
     let there = entry_there (get_or c.self.inside.slots.items c.in-Some.k None) _ seat.here in
     let read = get_or_read c.self.inside.slots.items c.in-Some.k c.index_mut.result.now seat.within c.index_mut.ensures.value None in
     rw (← c.self.view_is, c.protect.ensures, read, there.1)
-    (protected_there _ (c.args.addr / page_size) c.in-Some.k there.0 seat there.1 there.2 c.self.invariant.sound c.args.perms)
+    (protected_there _ (c.args.addr / page_size) c.in-Some.k there.0 seat there.1 there.2 c.self.invariant.kept.sound c.args.perms)
 
 pub returns-clause-resident : goal.returns-clause-resident
 returns-clause-resident c =

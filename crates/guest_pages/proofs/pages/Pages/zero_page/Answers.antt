@@ -1,29 +1,18 @@
-use Rattle.std.proofs.Common.{◌/◌, None, get_or}
+use Rattle.std.proofs.Common.{◌/◌, None, subst}
 use Rattle.std.proofs.lemmas.List.{get_or_read}
 use Rattle.machine_state.specs.Memory.{page_size}
+use Rattle.guest_pages.specs.Changes.{IsMapped}
 use Rattle.guest_pages.specs.Slots.{IsSeatOf}
-use Rattle.guest_pages.proofs.Seats.{entry_there}
-use Rattle.guest_pages.proofs.Protects.{mapped_seat, zeroed_slot, zeroed_there, zeroed_kept}
+use Rattle.guest_pages.proofs.Protects.{mapped_seat, perms_there}
 use Rattle.guest_pages.proofs.pages.Pages.zero_page.Goals as goal
 
 pub unreachable-requires : goal.unreachable-requires
 unreachable-requires c = mapped_seat c.args.self.now _ c.in-None.ensures c.requires.mapped
 
-pub invariant_of-self : goal.invariant_of-self
-invariant_of-self c =
-    let seat : IsSeatOf c.self.inside.slots.items (c.args.addr / page_size) c.in-Some.k = rw (← c.self.view_is) at c.in-Some.ensures in
-    let there = entry_there (get_or c.self.inside.slots.items c.in-Some.k None) _ seat.here in
-    let read = get_or_read c.self.inside.slots.items c.in-Some.k c.index_mut.result.now seat.within c.index_mut.ensures.value None in
-    let after = zeroed_slot c.index_mut.result.now c.zero.new.slot there.0 (rw read there.1) c.zero.ensures in
-    rw after.1 (zeroed_kept c.self.inside.slots.items _ _ _ _ (c.args.addr / page_size) c.in-Some.k there.0 after.0 seat there.1 there.2 after.2 c.self.invariant)
-
 pub returns-clause-zeroed : goal.returns-clause-zeroed
-returns-clause-zeroed c =
+returns-clause-zeroed c = λ mapped is.
     let seat : IsSeatOf c.self.inside.slots.items (c.args.addr / page_size) c.in-Some.k = rw (← c.self.view_is) at c.in-Some.ensures in
-    let there = entry_there (get_or c.self.inside.slots.items c.in-Some.k None) _ seat.here in
-    let read = get_or_read c.self.inside.slots.items c.in-Some.k c.index_mut.result.now seat.within c.index_mut.ensures.value None in
-    let after = zeroed_slot c.index_mut.result.now c.zero.new.slot there.0 (rw read there.1) c.zero.ensures in
-    rw (← c.self.view_is, after.1) (zeroed_there _ (c.args.addr / page_size) c.in-Some.k there.0 after.0 seat there.1 there.2 c.self.invariant.sound after.2)
-
-pub returns-clause-resident : goal.returns-clause-resident
-returns-clause-resident c = λ all page. rw (returns-clause-zeroed c).table (all page)
+    let read = get_or_read c.self.inside.slots.items c.in-Some.k c.index.result.now seat.within c.index.ensures None in
+    subst (λ perms. IsMapped c.args.self.now c.fill.new.self (c.args.addr / page_size) perms)
+    (perms_there _ (c.args.addr / page_size) c.in-Some.k c.index.result.now c.perms_of-perms.result mapped seat read c.perms_of-perms.ensures (rw (← c.self.view_is) at is))
+    c.fill.ensures.mapped

@@ -1,0 +1,5 @@
+pub mod Pieces
+pub mod Draws
+pub mod Paths
+pub mod Buffers
+pub mod Moves
