@@ -1,5 +1,5 @@
 -- The calls on the pages of memory (Linux, mmap(2), mprotect(2), munmap(2), brk(2), madvise(2), in part).
-use Rattle.std.specs.Prelude.{ℕ, zero, suc, ◌+◌, ◌-◌, ◌*◌, ◌/◌, ◌%◌, ◌==◌, Bool, true, false, not, ◌&&◌, ◌||◌, if◌then◌else◌, nat_lt, nat_le, List, [], ◌∷◌, Option, Some, None, is_none}
+use Rattle.std.specs.Prelude.{ℕ, zero, suc, ◌+◌, ◌-◌, ◌*◌, ◌/◌, ◌%◌, ◌==◌, Bool, true, false, not, ◌&&◌, ◌||◌, if◌then◌else◌, nat_lt, nat_le, List, [], ◌∷◌, Option, Some, None, is_none, unwrap_or}
 use Rattle.std.specs.Int.RustNames.{bit_and}
 use Rattle.std.specs.List.{list_any, range_with_len}
 use Rattle.std.specs.Option.{option_map}
@@ -36,23 +36,27 @@ abbrev pub asked_perms : ℕ → Perms
 asked_perms bits = record { 0 = bits % 8 }
 
 -- ---- mprotect: rdi is the first page's address, rsi the length, rdx the permissions
-abbrev pub protect_change : List ℕ → Change
-protect_change gprs = Protect (asked_perms (rdx gprs))
+-- so many pages from one on get these permissions
+unfoldable pub protected : Perms → (from count : ℕ) → World → Called
+protected perms from count w =
+    unless (first_failing (
+      (some_in (is_hole w.regions) from count, enomem)
+      ∷ (passes_limits w.pages (changed_regions (Protect perms) from (from + count) w.regions), enomem)
+      ∷ []
+    )) w (gives 0 (with_change (Protect perms) from (from + count) w))
 
 unfoldable pub mprotect_call : World → Called
 mprotect_call w =
     let gprs = w.state.gprs in
-    let from = rdi gprs / page_size in
-    let count = pages_up (rsi gprs) in
     unless (first_failing ((not (is_page (rdi gprs)), einval) ∷ [])) w
-    (if rsi gprs == 0 then gives 0 w
-    else unless (first_failing (
-      (some_in (is_hole w.regions) from count, enomem)
-      ∷ (passes_limits w (changed_regions (protect_change gprs) from (from + count) w.regions), enomem)
-      ∷ []
-    )) w (gives 0 (with_change (protect_change gprs) from (from + count) w)))
+    (if rsi gprs == 0 then gives 0 w else protected (asked_perms (rdx gprs)) (rdi gprs / page_size) (pages_up (rsi gprs)) w)
 
 -- ---- munmap: rdi is the first page's address, rsi the length; pages that aren't mapped are no fault
+unfoldable pub unmapped : (from to : ℕ) → World → Called
+unmapped from to w =
+    unless (first_failing ((passes_limits w.pages (changed_regions Unmap from to w.regions), enomem) ∷ [])) w
+    (gives 0 (with_change Unmap from to w))
+
 unfoldable pub munmap_call : World → Called
 munmap_call w =
     let gprs = w.state.gprs in
@@ -62,9 +66,8 @@ munmap_call w =
       (not (is_page (rdi gprs)), einval)
       ∷ (rsi gprs == 0, einval)
       ∷ (nat_lt highest_end to, einval)
-      ∷ (passes_limits w (changed_regions Unmap from to w.regions), enomem)
       ∷ []
-    )) w (gives 0 (with_change Unmap from to w))
+    )) w (unmapped from to w)
 
 -- ---- brk: rdi is the new break
 -- the heap's end moves from one page to another
@@ -73,28 +76,28 @@ resized w old new =
     if nat_lt old new then with_change heap_pages old new w
     else (if nat_lt new old then with_change Unmap new old w else w)
 
-abbrev pub resize_passes : World → (old new : ℕ) → Bool
-resize_passes w old new =
-    (nat_lt old new && passes_limits w (changed_regions heap_pages old new w.regions))
-    || (nat_lt new old && passes_limits w (changed_regions Unmap new old w.regions))
+abbrev pub resize_passes : (pages : ℕ) → List Region → (old new : ℕ) → Bool
+resize_passes pages regions old new =
+    (nat_lt old new && passes_limits pages (changed_regions heap_pages old new regions))
+    || (nat_lt new old && passes_limits pages (changed_regions Unmap new old regions))
 
 -- whether the break can't be moved to an address
-abbrev pub stays_broken : World → ℕ → Bool
-stays_broken w to =
+abbrev pub break_stays : World → ℕ → Bool
+break_stays w to =
     let old = pages_up w.break_at in
     let new = pages_up to in
-    nat_lt to w.heap_start || (some_in (is_taken w.regions) old (new - old) || resize_passes w old new)
+    nat_lt to w.heap_start || (some_in (is_taken w.regions) old (new - old) || resize_passes w.pages w.regions old new)
 
 unfoldable pub brk_call : World → Called
 brk_call w =
     let to = rdi w.state.gprs in
-    if stays_broken w to then gives w.break_at w
+    if break_stays w to then gives w.break_at w
     else gives to (record (resized w (pages_up w.break_at) (pages_up to)) { break_at = to })
 
 -- ---- madvise: rdi is the first page's address, rsi the length, rdx the advice
 -- a page of a file
 abbrev pub is_file_page : List Region → ℕ → Bool
-is_file_page regions page = elim (nature_at regions page) [ None ↦ false | Some nature ↦ nature.file ]
+is_file_page regions page = unwrap_or (option_map (λ nature. nature.file) (nature_at regions page)) false
 
 -- MADV_DONTNEED
 abbrev pub dont_need : ℕ
@@ -110,19 +113,19 @@ abbrev pub with_zeros : (from to : ℕ) → World → World
 with_zeros from to w =
     record w { state = record w.state { memory = record w.state.memory { byte = cleared from to w.state.memory.byte } } }
 
+-- so many anonymous pages from one on become zeros
+unfoldable pub discarded : (from count : ℕ) → World → Called
+discarded from count w =
+    unless (first_failing ((some_in (is_file_page w.regions) from count, einval) ∷ [])) w (gives 0 (with_zeros from (from + count) w))
+
 unfoldable pub madvise_call : World → Called
 madvise_call w =
     let gprs = w.state.gprs in
     let from = rdi gprs / page_size in
     let count = pages_up (rsi gprs) in
     let advice = low (rdx gprs) in
-    unless (first_failing (
-      (not (is_page (rdi gprs)), einval)
-      ∷ (some_in (is_hole w.regions) from count, enomem)
-      ∷ (advice == dont_need && some_in (is_file_page w.regions) from count, einval)
-      ∷ (not (advice == dont_need) && not (is_idle_advice advice), einval)
-      ∷ []
-    )) w (gives 0 (if advice == dont_need then with_zeros from (from + count) w else w))
+    unless (first_failing ((not (is_page (rdi gprs)), einval) ∷ (some_in (is_hole w.regions) from count, enomem) ∷ [])) w
+    (if advice == dont_need then discarded from count w else (if is_idle_advice advice then gives 0 w else refuses einval w))
 
 -- ---- mmap: rdi is the address or a hint, rsi the length, rdx the permissions, r10 the flags, r8 the descriptor, r9 the offset
 -- MAP_SHARED 1, MAP_PRIVATE 2: the two low bits of the flags
@@ -207,7 +210,7 @@ mmap_at None w = refuses enomem w
 mmap_at (Some from) w =
     let gprs = w.state.gprs in
     let to = from + pages_up (rsi gprs) in
-    unless (first_failing ((passes_limits w (changed_regions (mmap_change gprs) from to w.regions), enomem) ∷ [])) w
+    unless (first_failing ((passes_limits w.pages (changed_regions (mmap_change gprs) from to w.regions), enomem) ∷ [])) w
     (gives (from * page_size) (with_bytes (with_change (mmap_change gprs) from to w) (from * page_size) (mmap_bytes w)))
 
 unfoldable pub mmap_call : World → Called

@@ -18,8 +18,8 @@ abbrev pub with_files : World → FilesValue → World
 with_files w value = record w { files = value.files; descriptors = value.places }
 
 -- whether regions are more than there may be, or have more pages than may be mapped
-abbrev pub passes_limits : World → List Region → Bool
-passes_limits w regions = nat_lt most_regions (length regions) || nat_lt w.pages (page_sum regions)
+abbrev pub passes_limits : (pages : ℕ) → List Region → Bool
+passes_limits pages regions = nat_lt most_regions (length regions) || nat_lt pages (page_sum regions)
 
 -- the bytes of memory where those of the pages from one on and below another are 0
 abbrev pub cleared : (from to : ℕ) → (ℕ → ℕ) → ℕ → ℕ
