@@ -17,3 +17,4 @@ pub mod Keeps
 pub mod Carries
 pub mod Laws
 pub mod Brings
+pub mod KernelPuts

@@ -3,3 +3,4 @@ pub mod Draws
 pub mod Paths
 pub mod Buffers
 pub mod Moves
+pub mod Parts

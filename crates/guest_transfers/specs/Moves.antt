@@ -4,7 +4,7 @@ use Rattle.machine_state.specs.Memory.{Swap, Memory, page_size, first_miss, miss
 use Rattle.machine_state.specs.World.{place_at}
 use Rattle.machine_state.specs.declared.kinds.Access.{Access}
 use Rattle.machine_state.specs.declared.kinds.Kind.{Kind}
-use Rattle.machine_state.specs.declared.kinds.Kind.TheVariants.{Read}
+use Rattle.machine_state.specs.declared.kinds.Kind.TheVariants.{Read, Write}
 use Rattle.machine_state.specs.declared.kinds.Miss.{Miss}
 use Rattle.machine_state.specs.declared.kinds.Miss.TheVariants.{Away as AwayMiss}
 use Rattle.host_edge.specs.Causes.{Rose}
@@ -120,6 +120,14 @@ Writes byte pieces from old new fd at Failed = ⊥
 -- each byte of a range is on a mapped page
 abbrev pub IsMappedRange : Table → (addr count : ℕ) → Type 0
 IsMappedRange table addr count = (at : ℕ) → addr ≤ at → at < addr + count → IsSome (table (at / page_size))
+
+-- a copy goes on with the next part while the file has bytes: the parts that were copied were in frames; where the next is
+-- away, its page is in this slot
+abbrev pub Copies : Table → (addr count from : ℕ) → Stop → Type 0
+Copies table addr count from (Whole done) =
+    (from ≤ done) × (done ≤ count) × AreReady (away_access table) Write (single addr count) from done
+Copies table addr count from (Away done slot) = Stops (away_access table) Write (single addr count) from (Away done slot)
+Copies table addr count from Failed = ⊥
 
 -- ---- random bytes
 -- the bytes of successive draws came, from within the first draw on; the number passes the draws that are used up, and at the
