@@ -16,7 +16,8 @@ use Rattle.linux_calls.specs.Call.{gives, refuses}
 use Rattle.linux_calls.specs.Errnos.{efault}
 use Rattle.linux_calls.specs.Records.{put_record}
 use Rattle.linux_calls.specs.View.{View, with_parts}
-use Rattle.linux_calls.specs.Following.{Does, NeedsRecord, halt_of}
+use Rattle.linux_calls.specs.Following.{Does, halt_of}
+use Rattle.linux_calls.specs.Waiting.{NeedsRecordIn}
 
 pub answered-ok : (o : Option Miss) → Ok tt ≡ answer_of o → o ≡ None
 answered-ok None h = refl
@@ -65,14 +66,14 @@ module _ (v : View) (addr : ℕ) (bytes : List ℕ) where
       subst (λ (h : Halt). Does (put_record addr bytes) v (record v { pages = pages }) (Err h)) (sym by)
       (subst (λ (p : PagesValue). Does (put_record addr bytes) v (record v { pages = p }) (Err (halt_of miss))) (sym same) (by_miss miss is))
 
-  needs : (miss : Miss) → blocked (table_of v.pages) Write addr (length bytes) ≡ Some miss → NeedsRecord v addr (length bytes) (Err (halt_of miss))
+  needs : (miss : Miss) → blocked (table_of v.pages) Write addr (length bytes) ≡ Some miss → NeedsRecordIn v addr (length bytes) (Err (halt_of miss))
   needs (Unmapped at) is = tt
   needs (Denied at) is = tt
   needs (NonCanonical at) is = tt
   needs (Away slot) is = is
 
   pub record_needs : (pages : PagesValue) (halt : Halt) (miss : Miss) → pages ≡ v.pages → halt ≡ halt_of miss
-      → blocked (table_of v.pages) Write addr (length bytes) ≡ Some miss → NeedsRecord (record v { pages = pages }) addr (length bytes) (Err halt)
+      → blocked (table_of v.pages) Write addr (length bytes) ≡ Some miss → NeedsRecordIn (record v { pages = pages }) addr (length bytes) (Err halt)
   record_needs pages halt miss same by is =
-      subst (λ (h : Halt). NeedsRecord (record v { pages = pages }) addr (length bytes) (Err h)) (sym by)
-      (subst (λ (p : PagesValue). NeedsRecord (record v { pages = p }) addr (length bytes) (Err (halt_of miss))) (sym same) (needs miss is))
+      subst (λ (h : Halt). NeedsRecordIn (record v { pages = pages }) addr (length bytes) (Err h)) (sym by)
+      (subst (λ (p : PagesValue). NeedsRecordIn (record v { pages = p }) addr (length bytes) (Err (halt_of miss))) (sym same) (needs miss is))

@@ -1,40 +1,42 @@
 -- How a call of the code follows the written one, whatever the swap holds.
-use Rattle.std.specs.Prelude.{◌≡◌, ℕ, ⊤, List, length, ◌++◌, Option, Some, None, IsSome, Result, Ok, Err}
-use Rattle.machine_state.specs.declared.kinds.Kind.TheVariants.{Write}
+use Rattle.std.specs.Prelude.{◌≡◌, ℕ, ⊤, ◌×◌, List, Contains, length, Option, Some, None, IsSome, is_some, Result, Ok, Err}
+use Rattle.std.specs.Int.{w64, cast_unsigned}
 use Rattle.machine_state.specs.declared.kinds.Miss.{Miss}
 use Rattle.machine_state.specs.declared.kinds.Miss.TheVariants.{Unmapped, Denied, NonCanonical, Away}
 use Rattle.machine_state.specs.Memory.{Swap}
 use Rattle.machine_state.specs.World.{World as Whole}
-use Rattle.guest_pages.specs.Table.{blocked, perms_in}
+use Rattle.host_edge.specs.Causes.{Rose}
+use Rattle.host_edge.specs.declared.outside.HostCall.{HostCall}
+use Rattle.host_edge.specs.declared.outside.HostCall.TheVariants.{Load, Store, SwapOpen, SwapGet, SwapPut, Take, PutOut, PutErr}
+use Rattle.guest_pages.specs.Table.{perms_in}
 use Rattle.guest_pages.specs.Pages.{PagesValue, table_of, byte_of, mapped_count}
 use Rattle.guest_pages.specs.Changes.{AllResident, KeepsSize}
 use Rattle.linux_calls.specs.declared.world.World.{World}
+use Rattle.linux_calls.specs.declared.kinds.CallEnd.{CallEnd}
+use Rattle.linux_calls.specs.declared.kinds.CallEnd.TheVariants.{Value, Exit, Need as NeedEnd, Host}
 use Rattle.linux_calls.specs.declared.kinds.Halt.{Halt}
 use Rattle.linux_calls.specs.declared.kinds.Halt.TheVariants.{Refused, Need, Failed}
+use Rattle.linux_calls.specs.declared.kinds.Transfer.TheVariants.{Takes}
 use Rattle.linux_calls.specs.Errnos.{efault}
-use Rattle.linux_calls.specs.Call.{Called, gives, refuses}
+use Rattle.linux_calls.specs.Call.{Called, Gives, Exits, gives, refuses}
 use Rattle.linux_calls.specs.Parts.{cleared}
-use Rattle.linux_calls.specs.View.{View, view_of, SameParts, KeepsPages, with_parts}
+use Rattle.linux_calls.specs.Rest.{ProgressValue, rest_of, transfer_of, calls_in_call}
+use Rattle.linux_calls.specs.View.{View, view_of, SameParts, KeepsPages, StandsFor, with_parts}
+use Rattle.linux_calls.specs.Outside.{Standing, Streams, AreTold, Grown, Between, standing_in, with_standing}
 
 -- what a piece of a call leaves: the same references, and pages that fit
 pub record Kept (old new : World) : Type 0 where
   pub parts : SameParts old new
   pub pages : KeepsPages (view_of old) (view_of new)
 
--- a call that touches no stream comes to this: a value or an error, as the written one and with the parts that it leaves, or it
--- waits, and then nothing has changed
+-- ---- calls that touch no stream
+-- such a call comes to this: a value or an error, as the written one and with the parts that it leaves, or it waits, and then
+-- nothing has changed
 abbrev pub Does : (Whole → Called) → View → View → Result ℕ Halt → Type 0
 Does work old new (Ok value) = (swap : Swap) (base : Whole) → work (with_parts swap old base) ≡ gives value (with_parts swap new base)
 Does work old new (Err (Refused errno)) = (swap : Swap) (base : Whole) → work (with_parts swap old base) ≡ refuses errno (with_parts swap new base)
 Does work old new (Err (Need slot)) = new ≡ old
 Does work old new (Err (Failed call)) = ⊥
-
--- where it waits, the record of so many bytes at an address may be written, and its first page that is away is in this slot
-abbrev pub NeedsRecord : View → (addr count : ℕ) → Result ℕ Halt → Type 0
-NeedsRecord v addr count (Ok value) = ⊤
-NeedsRecord v addr count (Err (Refused errno)) = ⊤
-NeedsRecord v addr count (Err (Need slot)) = blocked (table_of v.pages) Write addr count ≡ Some (Away slot)
-NeedsRecord v addr count (Err (Failed call)) = ⊤
 
 -- what a miss makes of a call: it waits for a page that is away, and else it is refused
 abbrev pub halt_of : Miss → Halt
@@ -50,3 +52,92 @@ pub record AreZeroed (from to : ℕ) (old new : PagesValue) : Type 0 where
   pub byte : (swap : Swap) (addr : ℕ) → byte_of new swap addr ≡ cleared from to (byte_of old swap) addr
   pub count : mapped_count new ≡ mapped_count old
   pub resident : old.frames ≡ length old.slots → AllResident old → AllResident new
+
+-- ---- calls that may touch streams
+-- a call from one world on comes to another, where this stands on the streams: it is answered, or what is left of it there is what
+-- was left of it before, or a call on the outside failed
+abbrev pub ComesTo : Called → Whole → Whole → ProgressValue → Result ℕ Halt → Type 0
+ComesTo to from now progress (Ok value) = to ≡ gives value now
+ComesTo to from now progress (Err (Refused errno)) = to ≡ refuses errno now
+ComesTo to from now progress (Err (Need slot)) = (rest_of progress now ≡ to) × Grown (standing_in from) (standing_in now)
+ComesTo to from now progress (Err (Failed call)) = Contains (calls_in_call from) call × Between (standing_in from) (standing_in to.world) (standing_in now)
+
+-- the same from each world that parts and streams stand for, under a premise
+abbrev pub Comes : (Whole → Called) → Type 0 → View → View → Streams → Streams → Result ℕ Halt → Type 0
+Comes work Premise old new s s' result =
+    (swap : Swap) (base : Whole) → AreTold s (standing_in base) → Premise
+    → (on : Standing) × AreTold s' on
+    × ComesTo (work (with_parts swap old base)) (with_parts swap old base) (with_parts swap new (with_standing base on)) new.progress result
+
+-- the call takes input
+abbrev pub TakesInput : View → Type 0
+TakesInput v = transfer_of v.gprs v.files 0 ≡ Some Takes
+
+-- ---- the whole call
+-- it has come to a world for which the parts stand now, and what is left of it there is this
+pub record Waits (Stands : Whole → Type 0) (to : Called) (from : Whole) (progress : ProgressValue) : Type 0 where
+  pub now : Whole
+  pub stands : Stands now
+  pub rest : rest_of progress now ≡ to
+  pub grown : Grown (standing_in from) (standing_in now)
+
+-- a call on the outside failed in it: that is one of those that it makes, and something stands that may stand then
+pub record Fails (Told : Standing → Type 0) (to : Called) (from : Whole) (call : HostCall) : Type 0 where
+  pub on : Standing
+  pub told : Told on
+  pub made : Contains (calls_in_call from) call
+  pub between : Between (standing_in from) (standing_in to.world) on
+
+-- a call, or the rest of one, that stops with this answer: it answers what the written one does, and the parts stand for the world
+-- that it leaves, or it waits for a page, or a call on the outside failed in it
+abbrev pub Follows : (Whole → Type 0) → (Standing → Type 0) → Called → Whole → ProgressValue → CallEnd → Type 0
+Follows Stands Told to from progress (Value value) = (to.outcome ≡ Gives (cast_unsigned w64 value)) × Stands to.world
+Follows Stands Told to from progress (Exit code) = (to.outcome ≡ Exits code) × Stands to.world
+Follows Stands Told to from progress (NeedEnd slot) = Waits Stands to from progress
+Follows Stands Told to from progress (Host call) = Fails Told to from call
+
+-- the same for every content of the swap, from each world that parts and streams stand for; where it takes input, that is told
+abbrev pub FollowsAt : View → View → Streams → Streams → CallEnd → Type 0
+FollowsAt old new s s' end =
+    (swap : Swap) (from : Whole) → StandsFor swap old s from → (TakesInput old → IsSome s.left)
+    → Follows (StandsFor swap new s') (AreTold s') (rest_of old.progress from) from new.progress end
+
+-- ---- causes
+-- the streams tell their bytes where they did
+pub record StillTell (s s' : Streams) : Type 0 where
+  pub left : is_some s'.left ≡ is_some s.left
+  pub out : is_some s'.out ≡ is_some s.out
+  pub err : is_some s'.err ≡ is_some s.err
+
+-- how often the calls on the streams have failed
+pub record Faults : Type 0 where
+  pub take : ℕ
+  pub out : ℕ
+  pub err : ℕ
+
+abbrev pub faults : (take out err : ℕ) → Faults
+faults take out err = record { take = take; out = out; err = err }
+
+-- where no call failed, no count changed; a call that failed has its count, and no other changed
+abbrev pub IsCaused : Option HostCall → Faults → Faults → Type 0
+IsCaused None old new = new ≡ old
+IsCaused (Some Take) old new = Rose old.take new.take × (new ≡ record old { take = new.take })
+IsCaused (Some PutOut) old new = Rose old.out new.out × (new ≡ record old { out = new.out })
+IsCaused (Some PutErr) old new = Rose old.err new.err × (new ≡ record old { err = new.err })
+IsCaused (Some (Load word)) old new = ⊥
+IsCaused (Some (Store word)) old new = ⊥
+IsCaused (Some SwapOpen) old new = ⊥
+IsCaused (Some SwapGet) old new = ⊥
+IsCaused (Some SwapPut) old new = ⊥
+
+abbrev pub failed_in : Result ℕ Halt → Option HostCall
+failed_in (Ok value) = None
+failed_in (Err (Refused errno)) = None
+failed_in (Err (Need slot)) = None
+failed_in (Err (Failed call)) = Some call
+
+abbrev pub failed_by : CallEnd → Option HostCall
+failed_by (Value value) = None
+failed_by (Exit code) = None
+failed_by (NeedEnd slot) = None
+failed_by (Host call) = Some call

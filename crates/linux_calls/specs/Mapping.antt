@@ -10,9 +10,8 @@ use Rattle.machine_state.specs.World.{World, place_at}
 use Rattle.machine_state.specs.declared.kinds.Region.{Region}
 use Rattle.machine_state.specs.declared.permissions.Perms.{Perms}
 use Rattle.guest_files.specs.Checks.{first_failing, does_read, is_stream}
-use Rattle.guest_files.specs.Content.{piece_of}
 use Rattle.guest_files.specs.Errnos.{ebadf, eacces, einval}
-use Rattle.guest_files.specs.Moves.{content_at}
+use Rattle.guest_files.specs.Moves.{read_piece}
 use Rattle.guest_files.specs.Open.{has_flag}
 use Rattle.guest_files.specs.declared.errno.Errno.{Errno}
 use Rattle.region_map.specs.Calls.{lowest_page, highest_end, pages_up, is_mapped, is_taken, heap_pages}
@@ -168,8 +167,8 @@ mmap_page w =
     if is_fixed (r10 gprs) then Some (rdi gprs / page_size) else free_page w.regions (rdi gprs) (pages_up (rsi gprs))
 
 -- the descriptor that pages are copied from, and whether it is a file that can be read
-abbrev pub mapped_descriptor : World → ℕ
-mapped_descriptor w = low (r8 w.state.gprs)
+abbrev pub mapped_descriptor : List ℕ → ℕ
+mapped_descriptor gprs = low (r8 gprs)
 
 abbrev pub is_readable_file : World → ℕ → Bool
 is_readable_file w fd = does_read (place_at w.descriptors fd) && not (is_stream (place_at w.descriptors fd))
@@ -186,8 +185,8 @@ mmap_refusal w =
     (rsi gprs == 0, einval)
     ∷ (not (is_page (r9 gprs)), einval)
     ∷ (not (sharing_of flags == 1) && not (sharing_of flags == 2), einval)
-    ∷ (of_file && is_none (place_at w.descriptors (mapped_descriptor w)), ebadf)
-    ∷ (of_file && not (is_readable_file w (mapped_descriptor w)), eacces)
+    ∷ (of_file && is_none (place_at w.descriptors (mapped_descriptor gprs)), ebadf)
+    ∷ (of_file && not (is_readable_file w (mapped_descriptor gprs)), eacces)
     ∷ (of_file && sharing_of flags == map_shared, enodev)
     ∷ (is_fixed flags && not (is_page (rdi gprs)), einval)
     ∷ (is_fixed flags && (nat_lt from lowest_page || nat_lt highest_end (from + count)), enomem)
@@ -198,11 +197,19 @@ mmap_refusal w =
 abbrev pub mmap_change : List ℕ → Change
 mmap_change gprs = Map (asked_perms (rdx gprs)) (not (is_anonymous (r10 gprs)))
 
--- the bytes that are copied into them: those of the file from the offset on, as many as fit
-abbrev pub mmap_bytes : World → List ℕ
-mmap_bytes w =
+-- the file from the offset on, as many of its bytes as fit, from one of them on
+abbrev pub mmap_bytes : World → (done : ℕ) → List ℕ
+mmap_bytes w done =
     let gprs = w.state.gprs in
-    if is_anonymous (r10 gprs) then [] else piece_of (content_at (files_of w) (mapped_descriptor w)) (r9 gprs) (pages_up (rsi gprs) * page_size)
+    read_piece (files_of w) (mapped_descriptor gprs) (r9 gprs + done) (pages_up (rsi gprs) * page_size - done)
+
+-- a copy of a file into the pages from an address on, of which so many bytes are copied
+unfoldable pub copy_rest : (at done : ℕ) → World → Called
+copy_rest at done w = gives at (with_bytes w (at + done) (mmap_bytes w done))
+
+-- what pages are filled with once they are mapped
+abbrev pub filled_from : (at : ℕ) → World → Called
+filled_from at w = if is_anonymous (r10 w.state.gprs) then gives at w else copy_rest at 0 w
 
 -- what is mapped from a page on, if one is found
 abbrev pub mmap_at : Option ℕ → World → Called
@@ -211,7 +218,7 @@ mmap_at (Some from) w =
     let gprs = w.state.gprs in
     let to = from + pages_up (rsi gprs) in
     unless (first_failing ((passes_limits w.pages (changed_regions (mmap_change gprs) from to w.regions), enomem) ∷ [])) w
-    (gives (from * page_size) (with_bytes (with_change (mmap_change gprs) from to w) (from * page_size) (mmap_bytes w)))
+    (filled_from (from * page_size) (with_change (mmap_change gprs) from to w))
 
 unfoldable pub mmap_call : World → Called
 mmap_call w = unless (mmap_refusal w) w (mmap_at (mmap_page w) w)

@@ -3,11 +3,12 @@ use Rattle.std.specs.Prelude.{ℕ, ◌%◌, ◌^◌, ◌==◌, if◌then◌else�
 use Rattle.machine_state.specs.State.{State}
 use Rattle.machine_state.specs.World.{World}
 use Rattle.linux_calls.specs.declared.kinds.Call.{Call}
-use Rattle.linux_calls.specs.declared.kinds.Call.TheVariants.{Close, Fstat, Lseek, Mmap, Mprotect, Munmap, Brk, Ioctl, Madvise, Getpid, Exit, Uname, ArchPrctl, SetTidAddress, ClockGettime, ExitGroup}
+use Rattle.linux_calls.specs.declared.kinds.Call.TheVariants.{Read, Write, Open, Close, Fstat, Lseek, Mmap, Mprotect, Munmap, Brk, Ioctl, Pread64, Pwrite64, Readv, Writev, Madvise, Getpid, Exit, Uname, ArchPrctl, SetTidAddress, ClockGettime, ExitGroup, Openat, Getrandom}
 use Rattle.linux_calls.specs.Errnos.{enosys}
 use Rattle.linux_calls.specs.Call.{Called, Exits, gives, refuses, rax, rdi}
-use Rattle.linux_calls.specs.FileCalls.{close_call, lseek_call, ioctl_call}
+use Rattle.linux_calls.specs.FileCalls.{open_call, close_call, lseek_call, ioctl_call, openat_call}
 use Rattle.linux_calls.specs.Mapping.{mmap_call, mprotect_call, munmap_call, brk_call, madvise_call}
+use Rattle.linux_calls.specs.Transfers.{read_call, write_call, pread64_call, pwrite64_call, readv_call, writev_call, getrandom_call}
 use Rattle.linux_calls.specs.Records.{fstat_call, uname_call, arch_prctl_call, clock_gettime_call}
 
 -- the calls by their numbers (Linux, syscall_64.tbl)
@@ -16,7 +17,10 @@ Numbered = ℕ × Call
 
 abbrev pub numbers : List Numbered
 numbers =
-    (3, Close)
+    (0, Read)
+    ∷ (1, Write)
+    ∷ (2, Open)
+    ∷ (3, Close)
     ∷ (5, Fstat)
     ∷ (8, Lseek)
     ∷ (9, Mmap)
@@ -24,6 +28,10 @@ numbers =
     ∷ (11, Munmap)
     ∷ (12, Brk)
     ∷ (16, Ioctl)
+    ∷ (17, Pread64)
+    ∷ (18, Pwrite64)
+    ∷ (19, Readv)
+    ∷ (20, Writev)
     ∷ (28, Madvise)
     ∷ (39, Getpid)
     ∷ (60, Exit)
@@ -32,6 +40,8 @@ numbers =
     ∷ (218, SetTidAddress)
     ∷ (228, ClockGettime)
     ∷ (231, ExitGroup)
+    ∷ (257, Openat)
+    ∷ (318, Getrandom)
     ∷ []
 
 -- the call with a number, if there is one
@@ -52,6 +62,9 @@ exit_call w = record { outcome = Exits (rdi w.state.gprs % 2 ^ 8); world = w }
 
 -- what a call does
 abbrev pub act : Call → World → Called
+act Read w = read_call w
+act Write w = write_call w
+act Open w = open_call w
 act Close w = close_call w
 act Fstat w = fstat_call w
 act Lseek w = lseek_call w
@@ -60,6 +73,10 @@ act Mprotect w = mprotect_call w
 act Munmap w = munmap_call w
 act Brk w = brk_call w
 act Ioctl w = ioctl_call w
+act Pread64 w = pread64_call w
+act Pwrite64 w = pwrite64_call w
+act Readv w = readv_call w
+act Writev w = writev_call w
 act Madvise w = madvise_call w
 act Getpid w = gives process_id w
 act Exit w = exit_call w
@@ -68,6 +85,8 @@ act ArchPrctl w = arch_prctl_call w
 act SetTidAddress w = gives process_id w
 act ClockGettime w = clock_gettime_call w
 act ExitGroup w = exit_call w
+act Openat w = openat_call w
+act Getrandom w = getrandom_call w
 
 abbrev pub acted : Option Call → World → Called
 acted None w = refuses enosys w

@@ -1,12 +1,13 @@
 -- What a call sees of a guest, and the worlds that it stands for.
-use Rattle.std.specs.Prelude.{ℕ, ◌≡◌, ⊤, List, length, Option, Some, None}
+use Rattle.std.specs.Prelude.{ℕ, ◌≡◌, List, length}
 use Rattle.machine_state.specs.Memory.{Swap}
 use Rattle.machine_state.specs.World.{World as Whole}
 use Rattle.guest_files.specs.Files.{FilesValue}
 use Rattle.guest_pages.specs.Pages.{PagesValue, memory_of}
 use Rattle.guest_pages.specs.Changes.{AllResident, KeepsSize}
 use Rattle.region_map.specs.Calls.{RegionsValue, FitPages}
-use Rattle.linux_calls.specs.declared.kinds.Stage.{Stage}
+use Rattle.linux_calls.specs.Rest.{ProgressValue}
+use Rattle.linux_calls.specs.Outside.{Streams, AreTold, standing_in}
 use Rattle.linux_calls.specs.declared.world.World.{World}
 
 -- the parts of a guest that a call sees
@@ -18,7 +19,7 @@ pub record View : Type 0 where
   pub regions : RegionsValue
   pub files : FilesValue
   pub random : ℕ
-  pub progress : Stage
+  pub progress : ProgressValue
   pub steps : ℕ
 
 abbrev pub view_of : World → View
@@ -60,31 +61,10 @@ with_parts swap v w = record w {
   random = v.random;
 }
 
--- ---- streams
--- what three streams tell: the input that is left, and what output and error output were given
-pub record Streams : Type 0 where
-  pub left : Option (List ℕ)
-  pub out : Option (List ℕ)
-  pub err : Option (List ℕ)
-
-abbrev pub streams : (left out err : Option (List ℕ)) → Streams
-streams left out err = record { left = left; out = out; err = err }
-
--- a stream has these bytes, where it is told
-abbrev pub IsTold : Option (List ℕ) → List ℕ → Type 0
-IsTold None bytes = ⊤
-IsTold (Some told) bytes = bytes ≡ told
-
--- a world's streams have the bytes that are told
-pub record HasStreams (s : Streams) (w : Whole) : Type 0 where
-  pub left : IsTold s.left w.left
-  pub out : IsTold s.out w.out
-  pub err : IsTold s.err w.err
-
 -- parts and streams stand for a world: with them in their places it is the same
 pub record StandsFor (swap : Swap) (v : View) (s : Streams) (w : Whole) : Type 0 where
   pub parts : with_parts swap v w ≡ w
-  pub streams_are : HasStreams s w
+  pub streams_are : AreTold s (standing_in w)
 
 -- ---- pages
 -- the pages fit the regions

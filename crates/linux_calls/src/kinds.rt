@@ -1,12 +1,17 @@
 //! The calls, how they end, and how far they came.
 
+use arrayvec::ArrayVec;
 use guest_files::Errno;
+use guest_transfers::Piece;
 use host_edge::HostCall;
 use std::marker::Model;
 
 /// The system calls that there are, by their names in Linux.
 #[derive(Clone, Copy, Debug, PartialEq, Eq)]
 pub(crate) enum Call {
+    Read,
+    Write,
+    Open,
     Close,
     Fstat,
     Lseek,
@@ -15,6 +20,10 @@ pub(crate) enum Call {
     Munmap,
     Brk,
     Ioctl,
+    Pread64,
+    Pwrite64,
+    Readv,
+    Writev,
     Madvise,
     Getpid,
     Exit,
@@ -23,6 +32,8 @@ pub(crate) enum Call {
     SetTidAddress,
     ClockGettime,
     ExitGroup,
+    Openat,
+    Getrandom,
 }
 
 /// What comes of a call.
@@ -49,43 +60,92 @@ pub(crate) enum Halt {
     Failed(HostCall),
 }
 
+/// What bytes move between memory and something else.
+#[derive(Clone, Copy, Debug, PartialEq, Eq)]
+pub(crate) enum Transfer {
+    /// From the input.
+    Takes,
+    /// To the output.
+    PutsOut,
+    /// To the error output.
+    PutsErr,
+    /// From the file of a descriptor, from an offset on; the descriptor's offset moves, or not.
+    Reads(u32, u64, bool),
+    /// To the file of a descriptor.
+    Writes(u32, u64, bool),
+    /// From the random stream.
+    Draws,
+}
+
 /// Where a call stands.
 #[derive(Clone, Copy, Debug, PartialEq, Eq)]
 pub(crate) enum Stage {
     /// Before it, or before any part of it is done.
     Start,
+    /// Its list of buffers is read.
+    Listing,
+    /// So many bytes have moved.
+    Moving(u64),
+    /// A file is copied to the pages from this address on; so many bytes are.
+    Copying(u64, u64),
 }
 
-/// How far a call came.
+/// The most buffers of a list.
+pub(crate) const MOST_BUFFERS: usize = 1024;
+
+/// How far a call came. The buffers are those of a transfer, as they were first read.
 #[derive(Drop)]
 pub struct Progress {
     stage: Stage,
+    pieces: ArrayVec<Piece, MOST_BUFFERS>,
 }
 
 impl Model for Progress {
-    ghost use Rattle.linux_calls.specs.declared.kinds.Stage.{Stage};
+    ghost use Rattle.linux_calls.specs.Rest.{ProgressValue};
 
-    ghost Value = { Stage };
+    ghost Value = { ProgressValue };
 
-    ghost view = { λ p. p.stage };
+    ghost view = { λ p. record { stage = p.stage; pieces = p.pieces.items } };
 }
 
 impl Progress {
-    ghost use Rattle.std.specs.Prelude.{◌≡◌};
+    ghost use Rattle.std.specs.Prelude.{◌≡◌, ◌<◌, []};
+    ghost use Rattle.linux_calls.specs.Rest.{ProgressValue};
 
     /// Before a call.
     pub fn new() -> Progress
-        ensures { result ≡ Stage.Start }
+        ensures { result ≡ record { stage = Stage.Start; pieces = [] } }
     {
         Progress {
             stage: Stage::Start,
+            pieces: ArrayVec::new(),
         }
     }
 
-    /// The call is over.
-    pub(crate) fn end(&mut self)
-        ensures { self.new ≡ Stage.Start }
+    pub(crate) fn stage(&self) -> Stage
+        ensures { result ≡ self.now.stage }
     {
-        self.stage = Stage::Start;
+        self.stage
+    }
+
+    /// The buffers of the transfer.
+    pub(crate) fn pieces(&self) -> &[Piece]
+        ensures { result.now ≡ self.now.pieces }
+    {
+        self.pieces.as_slice()
+    }
+
+    /// The call stands here.
+    pub(crate) fn wait(&mut self, stage: Stage)
+        ensures { self.new ≡ record (self.old) { stage = stage } }
+    {
+        self.stage = stage;
+    }
+
+    /// A transfer has no buffers yet.
+    pub(crate) fn clear(&mut self)
+        ensures { self.new ≡ record (self.old) { pieces = [] } }
+    {
+        self.pieces.clear();
     }
 }

@@ -4,7 +4,8 @@ ghost use Rattle.machine_state.specs.Memory.{number_bytes};
 ghost use Rattle.linux_calls.specs.Call.{rsi, rdi};
 ghost use Rattle.linux_calls.specs.Records.{put_record as put_record_call, fstat_call, stat_bytes, uname_call, uname_bytes, arch_prctl_call, clock_gettime_call, time_bytes};
 ghost use Rattle.linux_calls.specs.View.{view_of, FitParts};
-ghost use Rattle.linux_calls.specs.Following.{Does, Kept, NeedsRecord, halt_of as halt_of_spec};
+ghost use Rattle.linux_calls.specs.Waiting.{NeedsRecordIn};
+ghost use Rattle.linux_calls.specs.Following.{Does, Kept, halt_of as halt_of_spec};
 
 use crate::errnos::{EFAULT, EPERM};
 use crate::kinds::Halt;
@@ -46,7 +47,7 @@ fn put_record(w: &mut World, addr: u64, bytes: &[u8]) -> Result<u64, Halt>
     requires { FitParts (view_of w.old) }
     ensures kept { Kept w.old w.new }
     ensures does { Does (put_record_call addr bytes.now) (view_of w.old) (view_of w.new) result }
-    ensures needs { NeedsRecord (view_of w.new) addr (length bytes.now) result }
+    ensures needs { NeedsRecordIn (view_of w.new) addr (length bytes.now) result }
 {
     match w.pages.write(addr, bytes) {
         Ok(()) => Ok(0),
@@ -79,7 +80,7 @@ pub(crate) fn fstat(w: &mut World) -> Result<u64, Halt>
     requires { FitParts (view_of w.old) }
     ensures kept { Kept w.old w.new }
     ensures does { Does fstat_call (view_of w.old) (view_of w.new) result }
-    ensures needs { NeedsRecord (view_of w.new) (rsi w.new.gprs.now) 144 result }
+    ensures needs { NeedsRecordIn (view_of w.new) (rsi w.new.gprs.now) 144 result }
 {
     let fd = low(w.rdi());
     let addr = w.rsi();
@@ -115,7 +116,7 @@ pub(crate) fn uname(w: &mut World) -> Result<u64, Halt>
     requires { FitParts (view_of w.old) }
     ensures kept { Kept w.old w.new }
     ensures does { Does uname_call (view_of w.old) (view_of w.new) result }
-    ensures needs { NeedsRecord (view_of w.new) (rdi w.new.gprs.now) 390 result }
+    ensures needs { NeedsRecordIn (view_of w.new) (rdi w.new.gprs.now) 390 result }
 {
     let addr = w.rdi();
     let fields = uname_record();
@@ -140,7 +141,7 @@ pub(crate) fn clock_gettime(w: &mut World) -> Result<u64, Halt>
     requires { FitParts (view_of w.old) }
     ensures kept { Kept w.old w.new }
     ensures does { Does clock_gettime_call (view_of w.old) (view_of w.new) result }
-    ensures needs { NeedsRecord (view_of w.new) (rsi w.new.gprs.now) 16 result }
+    ensures needs { NeedsRecordIn (view_of w.new) (rsi w.new.gprs.now) 16 result }
 {
     let addr = w.rsi();
     match low(w.rdi()) {
@@ -157,7 +158,7 @@ fn put_base(w: &mut World, addr: u64, base: u64) -> Result<u64, Halt>
     requires { FitParts (view_of w.old) }
     ensures kept { Kept w.old w.new }
     ensures does { Does (put_record_call addr (number_bytes 8 base)) (view_of w.old) (view_of w.new) result }
-    ensures needs { NeedsRecord (view_of w.new) addr 8 result }
+    ensures needs { NeedsRecordIn (view_of w.new) addr 8 result }
 {
     let mut fields = Fields::new();
     fields.word(base);
@@ -170,7 +171,7 @@ pub(crate) fn arch_prctl(w: &mut World) -> Result<u64, Halt>
     requires { FitParts (view_of w.old) }
     ensures kept { Kept w.old w.new }
     ensures does { Does arch_prctl_call (view_of w.old) (view_of w.new) result }
-    ensures needs { NeedsRecord (view_of w.new) (rsi w.new.gprs.now) 8 result }
+    ensures needs { NeedsRecordIn (view_of w.new) (rsi w.new.gprs.now) 8 result }
 {
     let base = w.rsi();
     match low(w.rdi()) {

@@ -1,0 +1,150 @@
+-- Where a call may go on, and for which page it waits.
+use Rattle.std.specs.Prelude.{◌≡◌, ◌≤◌, ◌<◌, ◌+◌, ◌*◌, ◌^◌, ℕ, true, ⊤, List, length, Option, Some, None, IsSome, Result, Ok, Err}
+use Rattle.machine_state.specs.declared.kinds.Kind.TheVariants.{Write}
+use Rattle.machine_state.specs.declared.kinds.Miss.TheVariants.{Away}
+use Rattle.machine_state.specs.Memory.{Permissions, page_size}
+use Rattle.guest_pages.specs.Table.{blocked, perms_in}
+use Rattle.guest_pages.specs.Pages.{table_of}
+use Rattle.guest_files.specs.Files.{FilesValue}
+use Rattle.region_map.specs.Calls.{pages_up}
+use Rattle.guest_transfers.specs.Pieces.{are_allowed, asked, most_asked, part_at, single}
+use Rattle.guest_transfers.specs.Buffers.{most_buffers}
+use Rattle.guest_transfers.specs.Moves.{ReadsFile, WritesFile, IsMappedRange, PathWaits, ListWaits, record_place, away_access, blocked_access}
+use Rattle.guest_transfers.specs.declared.kinds.Piece.{Piece}
+use Rattle.linux_calls.specs.declared.kinds.Call.{Call}
+use Rattle.linux_calls.specs.declared.kinds.Call.TheVariants.{Read, Write as WriteCall, Open, Close, Fstat, Lseek, Mmap, Mprotect, Munmap, Brk, Ioctl, Pread64, Pwrite64, Readv, Writev, Madvise, Getpid, Exit, Uname, ArchPrctl, SetTidAddress, ClockGettime, ExitGroup, Openat, Getrandom}
+use Rattle.linux_calls.specs.declared.kinds.CallEnd.{CallEnd}
+use Rattle.linux_calls.specs.declared.kinds.CallEnd.TheVariants.{Value, Exit as ExitEnd, Need as NeedEnd, Host}
+use Rattle.linux_calls.specs.declared.kinds.Halt.{Halt}
+use Rattle.linux_calls.specs.declared.kinds.Halt.TheVariants.{Refused, Need, Failed}
+use Rattle.linux_calls.specs.declared.kinds.Stage.{Stage}
+use Rattle.linux_calls.specs.declared.kinds.Stage.TheVariants.{Start, Listing, Moving, Copying}
+use Rattle.linux_calls.specs.declared.kinds.Transfer.{Transfer}
+use Rattle.linux_calls.specs.declared.kinds.Transfer.TheVariants.{Takes, PutsOut, PutsErr, Reads, Writes, Draws}
+use Rattle.linux_calls.specs.Call.{rax, rdi, rsi, rdx, r9}
+use Rattle.linux_calls.specs.Mapping.{mapped_descriptor}
+use Rattle.linux_calls.specs.Table.{call_numbered}
+use Rattle.linux_calls.specs.Transfers.{kind_of}
+use Rattle.linux_calls.specs.Rest.{transfer_of}
+use Rattle.linux_calls.specs.View.{View}
+
+-- ---- the condition of a call: it begins, or it goes on with a part of it that was begun. It looks at registers, descriptors,
+-- permissions and progress alone, so that no page that is brought breaks it
+-- what a transfer works on is there: its file, and for random bytes its one piece
+abbrev pub HasOther : Transfer → FilesValue → List Piece → (done : ℕ) → Type 0
+HasOther Takes files pieces done = ⊤
+HasOther PutsOut files pieces done = ⊤
+HasOther PutsErr files pieces done = ⊤
+HasOther (Reads fd at moves) files pieces done = ReadsFile files fd × (at + done < 2 ^ 63)
+HasOther (Writes fd at moves) files pieces done = WritesFile files fd × (at + done < 2 ^ 63)
+HasOther Draws files pieces done = length pieces ≡ 1
+
+pub record CanMove (transfer : Transfer) (perms : Permissions) (files : FilesValue) (pieces : List Piece) (done : ℕ) : Type 0 where
+  pub allowed : are_allowed perms (kind_of transfer) pieces ≡ true
+  pub most : asked pieces ≤ most_asked
+  pub within : done ≤ asked pieces
+  pub other : HasOther transfer files pieces done
+
+abbrev pub CanMoveBy : Option Transfer → Permissions → FilesValue → List Piece → (done : ℕ) → Type 0
+CanMoveBy None perms files pieces done = ⊥
+CanMoveBy (Some transfer) perms files pieces done = CanMove transfer perms files pieces done
+
+-- a list of buffers goes on behind those that have been read
+pub record CanList (transfer : Option Transfer) (gprs : List ℕ) (pieces : List Piece) : Type 0 where
+  pub transfers : IsSome transfer
+  pub most : rdx gprs ≤ most_buffers
+  pub within : length pieces ≤ rdx gprs
+  pub place : record_place (rsi gprs) (length pieces) < 2 ^ 64
+
+-- the bytes of the pages that mmap maps
+abbrev pub mapped_bytes : List ℕ → ℕ
+mapped_bytes gprs = pages_up (rsi gprs) * page_size
+
+-- a copy of a file to new pages goes on
+pub record CanCopy (v : View) (at done : ℕ) : Type 0 where
+  pub mapped : IsMappedRange (table_of v.pages) at (mapped_bytes v.gprs)
+  pub within : done ≤ mapped_bytes v.gprs
+  pub file : ReadsFile v.files (mapped_descriptor v.gprs)
+  pub offset : r9 v.gprs < 2 ^ 63
+
+abbrev pub CanGoOnBy : Stage → View → Type 0
+CanGoOnBy Start v = ⊤
+CanGoOnBy Listing v = CanList (transfer_of v.gprs v.files 0) v.gprs v.progress.pieces
+CanGoOnBy (Moving done) v = CanMoveBy (transfer_of v.gprs v.files done) (perms_in (table_of v.pages)) v.files v.progress.pieces done
+CanGoOnBy (Copying at done) v = CanCopy v at done
+
+abbrev pub CanGoOn : View → Type 0
+CanGoOn v = CanGoOnBy v.progress.stage v
+
+-- ---- the page that a call waits for: the next unit is allowed, and its first page that is away is in this slot
+-- a record of so many bytes at an address
+abbrev pub NeedsRecord : View → (addr count slot : ℕ) → Type 0
+NeedsRecord v addr count slot = blocked (table_of v.pages) Write addr count ≡ Some (Away slot)
+
+-- the part of a path, or the record that a call writes
+abbrev pub NeedsFor : Call → View → (slot : ℕ) → Type 0
+NeedsFor Open v slot = PathWaits v.pages (rdi v.gprs) slot
+NeedsFor Fstat v slot = NeedsRecord v (rsi v.gprs) 144 slot
+NeedsFor Uname v slot = NeedsRecord v (rdi v.gprs) 390 slot
+NeedsFor ArchPrctl v slot = NeedsRecord v (rsi v.gprs) 8 slot
+NeedsFor ClockGettime v slot = NeedsRecord v (rsi v.gprs) 16 slot
+NeedsFor Openat v slot = PathWaits v.pages (rsi v.gprs) slot
+NeedsFor Read v slot = ⊥
+NeedsFor WriteCall v slot = ⊥
+NeedsFor Close v slot = ⊥
+NeedsFor Lseek v slot = ⊥
+NeedsFor Mmap v slot = ⊥
+NeedsFor Mprotect v slot = ⊥
+NeedsFor Munmap v slot = ⊥
+NeedsFor Brk v slot = ⊥
+NeedsFor Ioctl v slot = ⊥
+NeedsFor Pread64 v slot = ⊥
+NeedsFor Pwrite64 v slot = ⊥
+NeedsFor Readv v slot = ⊥
+NeedsFor Writev v slot = ⊥
+NeedsFor Madvise v slot = ⊥
+NeedsFor Getpid v slot = ⊥
+NeedsFor Exit v slot = ⊥
+NeedsFor SetTidAddress v slot = ⊥
+NeedsFor ExitGroup v slot = ⊥
+NeedsFor Getrandom v slot = ⊥
+
+abbrev pub NeedsAtStart : Option Call → View → (slot : ℕ) → Type 0
+NeedsAtStart None v slot = ⊥
+NeedsAtStart (Some call) v slot = NeedsFor call v slot
+
+-- the part of a transfer
+abbrev pub NeedsPart : Option Transfer → View → (done slot : ℕ) → Type 0
+NeedsPart None v done slot = ⊥
+NeedsPart (Some transfer) v done slot = blocked_access (table_of v.pages) (part_at (kind_of transfer) v.progress.pieces done) ≡ Some (Away slot)
+
+abbrev pub NeedsBy : Stage → View → (slot : ℕ) → Type 0
+NeedsBy Start v slot = NeedsAtStart (call_numbered (rax v.gprs)) v slot
+NeedsBy Listing v slot = ListWaits v.pages (rsi v.gprs) (rdx v.gprs) v.progress.pieces slot
+NeedsBy (Moving done) v slot = NeedsPart (transfer_of v.gprs v.files done) v done slot
+NeedsBy (Copying at done) v slot = away_access (table_of v.pages) (part_at Write (single at (mapped_bytes v.gprs)) done) ≡ Some (Away slot)
+
+pub record IsNeeded (v : View) (slot : ℕ) : Type 0 where
+  pub needs : NeedsBy v.progress.stage v slot
+  pub can_go_on : CanGoOn v
+
+-- where a call waits, it does so for this page; where it is over, its progress stands before a call
+abbrev pub NeedsAt : View → CallEnd → Type 0
+NeedsAt v (Value value) = v.progress.stage ≡ Start
+NeedsAt v (ExitEnd code) = v.progress.stage ≡ Start
+NeedsAt v (NeedEnd slot) = IsNeeded v slot
+NeedsAt v (Host call) = ⊤
+
+-- the same of a piece of a call
+abbrev pub NeedsIn : View → Result ℕ Halt → Type 0
+NeedsIn v (Ok value) = ⊤
+NeedsIn v (Err (Refused errno)) = ⊤
+NeedsIn v (Err (Need slot)) = IsNeeded v slot
+NeedsIn v (Err (Failed call)) = ⊤
+
+-- where a call that writes a record waits
+abbrev pub NeedsRecordIn : View → (addr count : ℕ) → Result ℕ Halt → Type 0
+NeedsRecordIn v addr count (Ok value) = ⊤
+NeedsRecordIn v addr count (Err (Refused errno)) = ⊤
+NeedsRecordIn v addr count (Err (Need slot)) = NeedsRecord v addr count slot
+NeedsRecordIn v addr count (Err (Failed call)) = ⊥
