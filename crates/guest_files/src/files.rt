@@ -100,9 +100,10 @@ impl Files {
         &self.entries
     }
 
-    /// The most bytes that a file may have.
+    /// The most bytes that a file may have. The other clause holds of files at any time, as in `entries`.
     pub fn cap(&self) -> u32
-        ensures { result ≡ self.now.cap }
+        ensures value { result ≡ self.now.cap }
+        ensures kept { AreFiles self.now }
     {
         self.cap
     }

@@ -9,7 +9,7 @@ use Rattle.machine_state.specs.declared.kinds.Kind.{Kind}
 use Rattle.machine_state.specs.Memory.{Permissions, page_size, bytes_at, written, first_miss}
 use Rattle.machine_state.proofs.MemoryLemmas.{bytes_at-append, bytes_at-zero, length-bytes_at, written_none, written_on, first_miss_part}
 use Rattle.guest_transfers.specs.declared.kinds.Piece.{Piece}
-use Rattle.guest_transfers.specs.Pieces.{asked, are_allowed, pieces_bytes, spread, pieces_from, first_part}
+use Rattle.guest_transfers.specs.Pieces.{asked, are_allowed, pieces_bytes, spread, pieces_from, bytes_between}
 
 -- what is left of pieces behind bytes of the first, and behind all of them
 pub from_inside : (piece : Piece) (pieces : List Piece) (done : ℕ) → done < piece.len
@@ -103,6 +103,12 @@ pub length-pieces_bytes : (byte : ℕ → ℕ) (pieces : List Piece) → length 
 length-pieces_bytes byte [] = rw (bytes-nil byte) refl
 length-pieces_bytes byte (piece ∷ pieces) =
     rw (bytes-cons byte piece pieces, length-append (bytes_at byte piece.addr piece.len) (pieces_bytes byte pieces), length-bytes_at byte piece.addr piece.len, length-pieces_bytes byte pieces, sum_by-cons (λ (p : Piece). p.len) piece pieces) refl
+
+-- how many bytes there are from one up to another
+pub length-between : (byte : ℕ → ℕ) (pieces : List Piece) (from to : ℕ) → to ≤ asked pieces → length (bytes_between byte pieces from to) ≡ to - from
+length-between byte pieces from to within =
+    length-take (to - from) (drop from (pieces_bytes byte pieces))
+    ∙ rw (length-drop from (pieces_bytes byte pieces), length-pieces_bytes byte pieces) (omega arith)
 
 pub bytes_from : (byte : ℕ → ℕ) (pieces : List Piece) (done : ℕ) → pieces_bytes byte (pieces_from pieces done) ≡ drop done (pieces_bytes byte pieces)
 bytes_from byte [] done = rw (from_none done, bytes-nil byte) (sym (drop_all done [] (omega arith)))

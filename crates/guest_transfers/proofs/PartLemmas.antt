@@ -21,8 +21,8 @@ use Rattle.guest_pages.specs.Laws.{FitMemory}
 use Rattle.guest_pages.proofs.Carries.{keeps_on, keeps_written, keeps_same}
 use Rattle.guest_pages.proofs.Walks.{blocked_part, first_away-away}
 use Rattle.guest_transfers.specs.declared.kinds.Piece.{Piece}
-use Rattle.guest_transfers.specs.Pieces.{asked, are_allowed, pieces_bytes, spread, pieces_from, first_part, part_at, bytes_between}
-use Rattle.guest_transfers.specs.Moves.{AreReady, Moved, Took, IsPut, blocked_access}
+use Rattle.guest_transfers.specs.Pieces.{asked, are_allowed, pieces_bytes, spread, pieces_from, first_part, part_at, bytes_between, single}
+use Rattle.guest_transfers.specs.Moves.{AreReady, Moved, Took, IsMappedRange, IsPut, away_access, blocked_access}
 use Rattle.guest_transfers.specs.Parts.{AreLow, IsAway, TookPart}
 use Rattle.guest_transfers.proofs.Along.{from_inside, from_behind, from_none, from_all, asked_from, next_piece, from_from, bytes_from, front_bytes, spread_front, spread_none, spread-append}
 
@@ -291,7 +291,7 @@ blocked_rest table = record {
   rest = λ kind addr len i less one_page free. blocked_part table kind addr len i (len - i) (omega arith) free;
 }
 
-is_away : (miss : Miss) (slot : ℕ) → miss ≡ Away slot → IsAway miss
+pub is_away : (miss : Miss) (slot : ℕ) → miss ≡ Away slot → IsAway miss
 is_away (Away other) slot e = tt
 is_away (Unmapped addr) slot e = cc
 is_away (Denied addr) slot e = cc
@@ -345,3 +345,25 @@ answered_ok (Some miss) done h = cc
 pub answered_err : (o : Option Miss) (miss : Miss) → Err miss ≡ answer_of o → o ≡ Some miss
 answered_err None miss h = cc
 answered_err (Some other) miss h = cc
+
+pub away_rest : (table : Table) → IsPart (away_access table)
+away_rest table = record {
+  rest = λ kind addr len i less one_page free.
+      let page : (addr + i) / page_size ≡ addr / page_size = omega arith in ap (λ (page : ℕ). away_at (table page)) page ∙ free;
+}
+
+-- ---- one piece
+pub asked-single : (addr len : ℕ) → asked (single addr len) ≡ len
+asked-single addr len = omega arith
+
+pub single_part : (kind : Kind) (addr len done : ℕ) → done < len
+    → part_at kind (single addr len) done ≡ record { kind = kind; addr = addr + done; len = min (len - done) (page_size - (addr + done) % page_size) }
+single_part kind addr len done h = rw (from_inside (record { addr = addr; len = len }) [] done h) refl
+
+-- a range of mapped pages ends in the lower half of the address space
+pub low_range : (pages : PagesValue) (addr len : ℕ) → FitMemory pages → IsMappedRange (table_of pages) addr len → AreLow (single addr len)
+low_range pages addr len fit mapped zero d within some =
+    let last = mapped (addr + (len - 1)) (omega arith) (omega arith) in
+    let low = fit.low ((addr + (len - 1)) / page_size) last in
+    omega arith
+low_range pages addr len fit mapped (suc k) d within some = absurd (omega arith)

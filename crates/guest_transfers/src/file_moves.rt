@@ -1,10 +1,10 @@
 //! Transfers between memory and files.
-ghost use Rattle.std.specs.Prelude.{◌≡◌, ◌≤◌, ◌<◌, ◌+◌, ◌%◌, ◌^◌, true, None, length};
-ghost use Rattle.machine_state.specs.Memory.{Swap};
-ghost use Rattle.guest_pages.specs.Table.{blocked, perms_in};
+ghost use Rattle.std.specs.Prelude.{◌≡◌, ◌≤◌, ◌<◌, ◌+◌, ◌%◌, ◌^◌, true, None, Some, length, take, IfErr, IfOk, IsSome, OnErr, ◌/◌};
+ghost use Rattle.machine_state.specs.Memory.{page_size, Swap};
+ghost use Rattle.guest_pages.specs.Table.{away_at, blocked, perms_in};
 ghost use Rattle.guest_pages.specs.Pages.{table_of, byte_of};
 ghost use Rattle.guest_pages.specs.Changes.{IsWritten};
-ghost use Rattle.guest_files.specs.Content.{count_below, filled};
+ghost use Rattle.guest_files.specs.Content.{count_below};
 ghost use Rattle.guest_files.specs.Moves.{read_piece, written_at};
 ghost use Rattle.guest_transfers.specs.Pieces.{are_allowed, asked, most_asked, single};
 ghost use Rattle.guest_transfers.specs.Moves.{blocked_access, IsMappedRange, Copies, Reads, ReadsFile, Stops, Writes, WritesFile};
@@ -12,18 +12,20 @@ ghost use Rattle.guest_transfers.specs.Moves.{blocked_access, IsMappedRange, Cop
 use crate::kinds::{Piece, Stop};
 use crate::pieces::{away_slot, part, part_of, total_len};
 use guest_files::Files;
-use guest_pages::{Kind, Pages};
+use guest_pages::{Kind, Miss, Pages};
 
-// Reads a file from an offset on, also where that lies behind the last offset, and answers how many bytes came.
-fn read_front(files: &Files, fd: u32, at: u64, into: &mut [u8]) -> usize
-    requires { ReadsFile files.now fd }
-    ensures count { result ≡ length (read_piece files.now fd at (length into.old)) }
-    ensures bytes { into.new ≡ filled (read_piece files.now fd at (length into.old)) into.old }
+// Reads at most so many bytes of a file, from an offset on, to the front of a buffer, and answers how many came. No file has
+// bytes behind the cap.
+fn read_front(files: &Files, fd: u32, at: u64, into: &mut [u8], most: usize) -> usize
+    requires file { ReadsFile files.now fd }
+    requires room { most ≤ length into.old }
+    ensures count { result ≡ length (read_piece files.now fd at most) }
+    ensures bytes { take result into.new ≡ read_piece files.now fd at most }
 {
     if at >= u64::from(files.cap()) {
         return 0;
     }
-    match files.read_at(fd, at, into) {
+    match files.read_at(fd, at, &mut into[..most]) {
         Ok(count) => count,
         Err(_) => unreachable!(),
     }
@@ -38,7 +40,7 @@ fn read_part(pages: &mut Pages, addr: u64, part: usize, files: &Files, fd: u32, 
     ensures written { IsWritten pages.old pages.new addr (read_piece files.now fd at part) }
 {
     let mut buffer = [0; 4096];
-    let count = read_front(files, fd, at, &mut buffer[..part]);
+    let count = read_front(files, fd, at, &mut buffer, part);
     match pages.write(addr, &buffer[..count]) {
         Ok(()) => count,
         Err(_) => unreachable!(),
@@ -83,6 +85,7 @@ fn write_front(files: &mut Files, fd: u32, at: u64, bytes: &[u8]) -> usize
     requires { WritesFile files.old fd }
     ensures count { result ≡ count_below files.old.cap at (length bytes.now) }
     ensures written { files.new ≡ written_at files.old fd at bytes.now }
+    ensures none { 0 < length bytes.now → result ≡ 0 → files.new ≡ files.old }
 {
     if at >= u64::from(files.cap()) {
         return 0;
@@ -125,6 +128,37 @@ pub fn write_file(
     Stop::Whole(done)
 }
 
+// Copies a file from an offset on to a mapped page, and answers how many bytes came. Where none does, the page isn't asked for.
+fn copy_part(
+    pages: &mut Pages,
+    addr: u64,
+    part: usize,
+    files: &Files,
+    fd: u32,
+    at: u64,
+) -> Result<usize, Miss>
+    requires one_page { addr % page_size + part ≤ page_size }
+    requires mapped { IsSome (table_of pages.old (addr / page_size)) }
+    requires file { ReadsFile files.now fd }
+    ensures count { IfOk result (λ n. n ≡ length (read_piece files.now fd at part)) }
+    ensures written { IfOk result (λ n. 0 < n
+        → IsWritten pages.old pages.new addr (read_piece files.now fd at part)) }
+    ensures there { IfOk result (λ n. 0 < n → away_at (table_of pages.old (addr / page_size)) ≡ None) }
+    ensures none { IfOk result (λ n. n ≡ 0 → pages.new ≡ pages.old) }
+    ensures away { IfErr result (λ miss. away_at (table_of pages.old (addr / page_size)) ≡ Some miss) }
+    ensures err { OnErr result (pages.new ≡ pages.old) }
+{
+    let mut buffer = [0; 4096];
+    let count = read_front(files, fd, at, &mut buffer, part);
+    if count == 0 {
+        return Ok(0);
+    }
+    match pages.put(addr, &buffer[..count]) {
+        Ok(()) => Ok(count),
+        Err(miss) => Err(miss),
+    }
+}
+
 /// Copies a file from an offset on to mapped pages, whatever their permissions.
 pub fn copy_file(
     pages: &mut Pages,
@@ -142,20 +176,15 @@ pub fn copy_file(
     ensures reads { Reads pages.old pages.new (single addr count) from files.now fd at result }
     ensures stops { Copies (table_of pages.old) addr count from result }
 {
-    let mut buffer = [0; 4096];
     let _ = pages.limit();
     let mut done = from;
     while done < count {
         let next = part_of(&[Piece { addr, len: count }], done, Kind::Write);
-        let n = read_front(files, fd, at + done, &mut buffer[..next.len as usize]);
-        if n == 0 {
-            return Stop::Whole(done);
-        }
-        match pages.put(next.addr, &buffer[..n]) {
-            Ok(()) => {}
+        match copy_part(pages, next.addr, next.len as usize, files, fd, at + done) {
+            Ok(0) => return Stop::Whole(done),
+            Ok(n) => done += n as u64,
             Err(miss) => return Stop::Away(done, away_slot(miss)),
         }
-        done += n as u64;
     }
     Stop::Whole(done)
 }
