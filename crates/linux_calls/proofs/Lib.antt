@@ -3,3 +3,7 @@ pub mod RangeLemmas
 pub mod ChangeLemmas
 pub mod MappingLemmas
 pub mod ZeroLemmas
+pub mod MoveLemmas
+pub mod TakeLemmas
+pub mod PutLemmas
+pub mod FileMoves

@@ -1,5 +1,5 @@
 -- How a call of the code follows the written one, whatever the swap holds.
-use Rattle.std.specs.Prelude.{◌≡◌, ℕ, ⊤, ◌×◌, List, Contains, length, Option, Some, None, IsSome, is_some, Result, Ok, Err}
+use Rattle.std.specs.Prelude.{◌≡◌, ◌+◌, ◌<◌, ◌^◌, ℕ, Bool, List, Contains, length, Option, Some, None, IsSome, is_some, Result, Ok, Err}
 use Rattle.std.specs.Int.{w64, cast_unsigned}
 use Rattle.machine_state.specs.declared.kinds.Miss.{Miss}
 use Rattle.machine_state.specs.declared.kinds.Miss.TheVariants.{Unmapped, Denied, NonCanonical, Away}
@@ -16,10 +16,14 @@ use Rattle.linux_calls.specs.declared.kinds.CallEnd.{CallEnd}
 use Rattle.linux_calls.specs.declared.kinds.CallEnd.TheVariants.{Value, Exit, Need as NeedEnd, Host}
 use Rattle.linux_calls.specs.declared.kinds.Halt.{Halt}
 use Rattle.linux_calls.specs.declared.kinds.Halt.TheVariants.{Refused, Need, Failed}
+use Rattle.guest_transfers.specs.declared.kinds.Stop.{Stop}
+use Rattle.guest_transfers.specs.declared.kinds.Stop.TheVariants.{Whole as StopWhole, Away as StopAway, Failed as StopFailed}
+use Rattle.linux_calls.specs.declared.kinds.Stage.TheVariants.{Moving}
 use Rattle.linux_calls.specs.declared.kinds.Transfer.TheVariants.{Takes}
 use Rattle.linux_calls.specs.Errnos.{efault}
 use Rattle.linux_calls.specs.Call.{Called, Gives, Exits, gives, refuses}
 use Rattle.linux_calls.specs.Parts.{cleared}
+use Rattle.linux_calls.specs.Transfers.{left_at}
 use Rattle.linux_calls.specs.Rest.{ProgressValue, rest_of, transfer_of, calls_in_call}
 use Rattle.linux_calls.specs.View.{View, view_of, SameParts, KeepsPages, StandsFor, with_parts}
 use Rattle.linux_calls.specs.Outside.{Standing, Streams, AreTold, Grown, Between, standing_in, with_standing}
@@ -37,6 +41,13 @@ Does work old new (Ok value) = (swap : Swap) (base : Whole) → work (with_parts
 Does work old new (Err (Refused errno)) = (swap : Swap) (base : Whole) → work (with_parts swap old base) ≡ refuses errno (with_parts swap new base)
 Does work old new (Err (Need slot)) = new ≡ old
 Does work old new (Err (Failed call)) = ⊥
+
+-- the same of a call that may wait with a part of it done: what is left of it then is what was left of it before
+abbrev pub DoesPart : (Whole → Called) → View → View → Result ℕ Halt → Type 0
+DoesPart work old new (Ok value) = (swap : Swap) (base : Whole) → work (with_parts swap old base) ≡ gives value (with_parts swap new base)
+DoesPart work old new (Err (Refused errno)) = (swap : Swap) (base : Whole) → work (with_parts swap old base) ≡ refuses errno (with_parts swap new base)
+DoesPart work old new (Err (Need slot)) = (swap : Swap) (base : Whole) → rest_of new.progress (with_parts swap new base) ≡ work (with_parts swap old base)
+DoesPart work old new (Err (Failed call)) = ⊥
 
 -- what a miss makes of a call: it waits for a page that is away, and else it is refused
 abbrev pub halt_of : Miss → Halt
@@ -141,3 +152,23 @@ failed_by (Value value) = None
 failed_by (Exit code) = None
 failed_by (NeedEnd slot) = None
 failed_by (Host call) = Some call
+
+-- ---- how a transfer's stop leaves a call
+abbrev pub Ends : Stop → HostCall → View → View → Result ℕ Halt → Type 0
+Ends (StopWhole done) call old new result = (new ≡ old) × (result ≡ Ok done)
+Ends (StopAway done slot) call old new result =
+    (new ≡ record old { progress = record { stage = Moving done; pieces = old.progress.pieces } }) × (result ≡ Err (Need slot))
+Ends StopFailed call old new result = (new ≡ old) × (result ≡ Err (Failed call))
+
+-- the same of a transfer with a file, whose descriptor is left at the offset that it came to
+abbrev pub EndsAt : Stop → (fd at : ℕ) → Bool → View → View → Result ℕ Halt → Type 0
+EndsAt (StopWhole done) fd at moves old new result = (new ≡ record old { files = left_at moves old.files fd (at + done) }) × (result ≡ Ok done)
+EndsAt (StopAway done slot) fd at moves old new result =
+    (new ≡ record old { progress = record { stage = Moving done; pieces = old.progress.pieces } }) × (result ≡ Err (Need slot))
+EndsAt StopFailed fd at moves old new result = ⊥
+
+-- a transfer with a file stops at an offset
+abbrev pub IsLowStop : Stop → (at : ℕ) → Type 0
+IsLowStop (StopWhole done) at = at + done < 2 ^ 63
+IsLowStop (StopAway done slot) at = at + done < 2 ^ 63
+IsLowStop StopFailed at = ⊥

@@ -120,7 +120,7 @@ NeedsPart (Some transfer) v done slot = blocked_access (table_of v.pages) (part_
 
 abbrev pub NeedsBy : Stage → View → (slot : ℕ) → Type 0
 NeedsBy Start v slot = NeedsAtStart (call_numbered (rax v.gprs)) v slot
-NeedsBy Listing v slot = ListWaits v.pages (rsi v.gprs) (rdx v.gprs) v.progress.pieces slot
+NeedsBy Listing v slot = ListWaits v.pages (rsi v.gprs) (rdx v.gprs) v.progress.pieces v.progress.pieces slot
 NeedsBy (Moving done) v slot = NeedsPart (transfer_of v.gprs v.files done) v done slot
 NeedsBy (Copying at done) v slot = away_access (table_of v.pages) (part_at Write (single at (mapped_bytes v.gprs)) done) ≡ Some (Away slot)
 

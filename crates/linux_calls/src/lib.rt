@@ -9,6 +9,7 @@ mod kinds;
 mod mapping;
 
 mod records;
+mod transfers;
 mod world;
 
 pub use answering::answer;
