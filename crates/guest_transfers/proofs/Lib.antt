@@ -1,3 +1,6 @@
 pub mod Along
 pub mod PartLemmas
 pub mod FileLemmas
+pub mod DrawLemmas
+pub mod PathLemmas
+pub mod BufferLemmas

@@ -19,11 +19,11 @@ use Rattle.guest_pages.specs.Pages.{PagesValue, table_of, byte_of}
 use Rattle.guest_pages.specs.Changes.{IsWritten, KeepsTable}
 use Rattle.guest_pages.specs.Laws.{FitMemory}
 use Rattle.guest_pages.proofs.Carries.{keeps_on, keeps_written, keeps_same}
-use Rattle.guest_pages.proofs.Walks.{blocked_part, first_away-away}
+use Rattle.guest_pages.proofs.Walks.{away_at-away, blocked_part, blocked_within, first_away-away}
 use Rattle.guest_transfers.specs.declared.kinds.Piece.{Piece}
 use Rattle.guest_transfers.specs.Pieces.{asked, are_allowed, pieces_bytes, spread, pieces_from, first_part, part_at, bytes_between, single}
 use Rattle.guest_transfers.specs.Moves.{AreReady, Moved, Took, IsMappedRange, IsPut, away_access, blocked_access}
-use Rattle.guest_transfers.specs.Parts.{AreLow, IsAway, TookPart}
+use Rattle.guest_transfers.specs.Parts.{AreLow, IsAway, IsDenied, TookPart}
 use Rattle.guest_transfers.proofs.Along.{from_inside, from_behind, from_none, from_all, asked_from, next_piece, from_from, bytes_from, front_bytes, spread_front, spread_none, spread-append}
 
 -- ---- allowed pieces
@@ -367,3 +367,19 @@ low_range pages addr len fit mapped zero d within some =
     let low = fit.low ((addr + (len - 1)) / page_size) last in
     omega arith
 low_range pages addr len fit mapped (suc k) d within some = absurd (omega arith)
+
+-- an access within one page that isn't allowed: its first byte isn't
+pub denied_first : (table : Table) (kind : Kind) (addr len : ℕ) (miss : Miss) → 0 < len → addr % page_size + len ≤ page_size → blocked table kind addr len ≡ Some miss
+    → IsDenied miss → (first : Miss) × (miss_at (perms_in table) kind addr ≡ Some first)
+denied_first table kind addr len miss some one_page is denied = of (miss_at (perms_in table) kind addr) refl
+  where
+    never : (miss : Miss) (slot : ℕ) → miss ≡ Away slot → IsDenied miss → ⊥
+    never (Away other) slot e d = d
+    never (Unmapped addr) slot e d = cc
+    never (Denied addr) slot e d = cc
+    never (NonCanonical addr) slot e d = cc
+    of : (o : Option Miss) → miss_at (perms_in table) kind addr ≡ o → (first : Miss) × (miss_at (perms_in table) kind addr ≡ Some first)
+    of None none =
+        let away = away_at-away (table (addr / page_size)) miss (sym (blocked_within table kind addr len some one_page none) ∙ is) in
+        absurd (never miss away.0 away.1 denied)
+    of (Some first) e = (first, e)

@@ -1,44 +1,51 @@
 //! Lists of buffers in memory.
-ghost use Rattle.std.specs.Prelude.{◌≡◌, ◌≤◌, ◌<◌, ◌+◌, ◌-◌, ◌%◌, ◌^◌, ◌++◌, ◌∷◌, [], None, Some, length, MatchResult};
-ghost use Rattle.machine_state.specs.Memory.{page_size, Swap, bytes_at};
+ghost use Rattle.std.specs.Prelude.{◌≡◌, ◌≤◌, ◌<◌, ◌+◌, ◌^◌, None, length, MatchResult, OnOk};
+ghost use Rattle.machine_state.specs.Memory.{Swap};
 ghost use Rattle.guest_pages.specs.Table.{blocked};
 ghost use Rattle.guest_pages.specs.Pages.{table_of, byte_of};
-ghost use Rattle.guest_transfers.specs.Buffers.{most_buffers, buffer_at};
+ghost use Rattle.guest_transfers.specs.Buffers.{most_buffers, buffer_at, record_size};
 ghost use Rattle.guest_transfers.specs.Moves.{ReadsList, record_place};
+ghost use Rattle.guest_transfers.specs.Parts.{RecordStops};
 
 use crate::kinds::{ListRead, Piece};
+use crate::pieces::away;
 use arrayvec::ArrayVec;
-use byteorder::{ByteOrder, LittleEndian};
 use guest_pages::{Kind, Miss, Pages};
 use machine_state::PAGE_SIZE;
 
-const RECORD: usize = 16;
+// The bytes of a record.
+const RECORD: u64 = 16;
 
-// Reads bytes that lie on one page.
-fn read_within(pages: &Pages, addr: u64, into: &mut [u8]) -> Result<(), Miss>
+// Whether a record can be read now. It may lie on two pages, of which the first is looked at first.
+fn check_record(pages: &Pages, addr: u64) -> Result<(), Miss>
+    ensures answer { MatchResult result (λ _. blocked (table_of pages.now) Kind.Read addr record_size ≡ None)
+        (RecordStops (table_of pages.now) addr) }
+    ensures low { OnOk result (addr + record_size ≤ 2 ^ 47) }
 {
-    match pages.view(addr, into.len(), Kind::Read) {
-        Ok(bytes) => {
-            into.copy_from_slice(bytes);
-            Ok(())
-        }
+    let here = RECORD.min(PAGE_SIZE - addr % PAGE_SIZE);
+    match pages.ready(addr, here, Kind::Read) {
+        Ok(()) => {}
+        Err(miss) => return Err(miss),
+    }
+    if here == RECORD {
+        return Ok(());
+    }
+    match pages.ready(addr + here, RECORD - here, Kind::Read) {
+        Ok(()) => Ok(()),
         Err(miss) => Err(miss),
     }
 }
 
-// Reads a record, of which each part lies on one page.
-fn read_record(pages: &Pages, addr: u64) -> Result<Piece, Miss>
+// The buffer of a record, which can be read now.
+fn buffer(pages: &Pages, addr: u64) -> Piece
+    requires ready { blocked (table_of pages.now) Kind.Read addr record_size ≡ None }
+    requires low { addr + record_size ≤ 2 ^ 47 }
+    ensures { (w : Swap) → result ≡ buffer_at (byte_of pages.now w) addr }
 {
-    let mut bytes = [0; RECORD];
-    let here = RECORD.min((PAGE_SIZE - addr % PAGE_SIZE) as usize);
-    read_within(pages, addr, &mut bytes[..here])?;
-    if here < RECORD {
-        read_within(pages, addr + here as u64, &mut bytes[here..])?;
+    Piece {
+        addr: pages.load(addr, 8, Kind::Read),
+        len: pages.load(addr + 8, 8, Kind::Read),
     }
-    Ok(Piece {
-        addr: LittleEndian::read_u64(&bytes),
-        len: LittleEndian::read_u64(&bytes[8..]),
-    })
 }
 
 /// Reads a list of so many buffers behind those that stand in `list`.
@@ -54,12 +61,13 @@ pub fn read_list(
     ensures { ReadsList pages.now addr count list.old.items list.new.items result }
 {
     while (list.len() as u64) < count {
-        match read_record(pages, addr + RECORD as u64 * list.len() as u64) {
-            Ok(piece) => list.push(piece),
-            Err(Miss::Away(slot)) => return ListRead::Away(slot),
-            Err(Miss::Unmapped(_) | Miss::Denied(_) | Miss::NonCanonical(_)) => {
-                return ListRead::Fault;
-            }
+        let at = addr + RECORD * list.len() as u64;
+        match check_record(pages, at) {
+            Ok(()) => list.push(buffer(pages, at)),
+            Err(miss) => match away(miss) {
+                Some(slot) => return ListRead::Away(slot),
+                None => return ListRead::Fault,
+            },
         }
     }
     ListRead::Whole

@@ -1,10 +1,10 @@
 //! Transfers from the random stream to memory.
-ghost use Rattle.std.specs.Prelude.{◌≡◌, ◌≤◌, ◌<◌, ◌+◌, ◌-◌, ◌/◌, ◌%◌, ◌^◌, true, None, length, slice_index};
-ghost use Rattle.machine_state.specs.Memory.{number_bytes};
+ghost use Rattle.std.specs.Prelude.{◌≡◌, ◌≤◌, ◌<◌, ◌+◌, ◌-◌, ◌/◌, ◌%◌, ◌^◌, true, None, length, slice_index, take};
+ghost use Rattle.byteorder.specs.Endian.{little_bytes};
 ghost use Rattle.guest_pages.specs.Table.{blocked, perms_in};
 ghost use Rattle.guest_pages.specs.Pages.{table_of};
 ghost use Rattle.guest_pages.specs.Changes.{IsWritten};
-ghost use Rattle.guest_transfers.specs.Draws.{drawn, drawn_byte, number_after};
+ghost use Rattle.guest_transfers.specs.Draws.{drawn, number_after};
 ghost use Rattle.guest_transfers.specs.Pieces.{are_allowed, most_asked, single};
 ghost use Rattle.guest_transfers.specs.Moves.{blocked_access, Draws, Stops};
 
@@ -13,25 +13,30 @@ use crate::pieces::{away_slot, part};
 use guest_pages::{Kind, Pages};
 use machine_state::next_random;
 
-// Fills a buffer with bytes of successive draws, of the first from the byte `skip` on, and answers the number of the stream
-// behind the draws that are used up.
-fn fill(into: &mut [u8], skip: u64, random: u64) -> u64
+// A byte of a draw.
+fn draw_byte(draw: u64, at: usize) -> u8
+    requires { at < 8 }
+    ensures { result ≡ slice_index (little_bytes 8 draw) at }
+{
+    draw.to_le_bytes()[at]
+}
+
+// Fills the front of a buffer with bytes of successive draws, of the first from the byte `skip` on, and answers the number of
+// the stream behind the draws that are used up.
+fn fill(into: &mut [u8], count: usize, skip: usize, random: u64) -> u64
     requires skip { skip < 8 }
+    requires room { count ≤ length into.old }
     requires most { length into.old ≤ 4096 }
-    ensures bytes { into.new ≡ drawn random skip (length into.old) }
-    ensures number { result ≡ number_after random ((skip + length into.old) / 8) }
+    ensures len { length into.new ≡ length into.old }
+    ensures bytes { take count into.new ≡ drawn random skip count }
+    ensures number { result ≡ number_after random ((skip + count) / 8) }
 {
     let mut number = random;
-    let mut at = skip as usize;
-    for byte in into.iter_mut() {
+    for at in 0..count {
         let draw = next_random(number);
-        *byte = draw.to_le_bytes()[at];
-        if at < 7 {
-            at += 1;
-        } else {
-            at = 0;
-            number = draw;
-        }
+        let place = (skip + at) % 8;
+        into[at] = draw_byte(draw, place);
+        number = if place == 7 { draw } else { number };
     }
     number
 }
@@ -50,7 +55,7 @@ pub fn draw_bytes(pages: &mut Pages, piece: Piece, from: u64, random: &mut u64) 
     let mut done = from;
     while done < piece.len {
         let next = part(pages, &[piece], done, Kind::Write);
-        let number = fill(&mut buffer[..next.len as usize], done % 8, *random);
+        let number = fill(&mut buffer, next.len as usize, (done % 8) as usize, *random);
         match pages.write(next.addr, &buffer[..next.len as usize]) {
             Ok(()) => *random = number,
             Err(miss) => return Stop::Away(done, away_slot(miss)),

@@ -6,7 +6,8 @@ ghost use Rattle.guest_transfers.specs.Paths.{end_of, path_max};
 
 use crate::kinds::PathRead;
 use arrayvec::ArrayVec;
-use guest_pages::{Kind, Miss, Pages};
+use crate::pieces::away;
+use guest_pages::{Kind, Pages};
 use machine_state::PAGE_SIZE;
 
 const PATH_MAX: usize = 256;
@@ -46,10 +47,10 @@ pub fn read_path(pages: &Pages, addr: u64) -> PathRead
                 }
                 None => put(&mut text, bytes),
             },
-            Err(Miss::Away(slot)) => return PathRead::Away(slot),
-            Err(Miss::Unmapped(_) | Miss::Denied(_) | Miss::NonCanonical(_)) => {
-                return PathRead::Fault;
-            }
+            Err(miss) => match away(miss) {
+                Some(slot) => return PathRead::Away(slot),
+                None => return PathRead::Fault,
+            },
         }
     }
     PathRead::TooLong

@@ -1,10 +1,10 @@
 //! Pieces of guest memory, and their parts.
-ghost use Rattle.std.specs.Prelude.{◌≡◌, ◌≤◌, ◌<◌, ◌+◌, ◌-◌, ◌^◌, ◌%◌, true, None, min, max};
+ghost use Rattle.std.specs.Prelude.{◌≡◌, ◌≤◌, ◌<◌, ◌+◌, ◌-◌, ◌^◌, ◌%◌, true, None, min, max, MatchOption};
 ghost use Rattle.machine_state.specs.Memory.{first_miss, page_size};
 ghost use Rattle.guest_pages.specs.Table.{perms_in};
 ghost use Rattle.guest_pages.specs.Pages.{table_of};
 ghost use Rattle.guest_transfers.specs.Pieces.{are_allowed, asked, part_at};
-ghost use Rattle.guest_transfers.specs.Parts.{AreLow, IsAway};
+ghost use Rattle.guest_transfers.specs.Parts.{AreLow, IsAway, IsDenied};
 
 use crate::kinds::Piece;
 use guest_pages::Pages;
@@ -72,5 +72,15 @@ pub(crate) fn away_slot(miss: Miss) -> u32
     match miss {
         Miss::Away(slot) => slot,
         Miss::Unmapped(_) | Miss::Denied(_) | Miss::NonCanonical(_) => unreachable!(),
+    }
+}
+
+// The slot of the page that is away, where an access isn't kept from being made by its permissions.
+pub(crate) fn away(miss: Miss) -> Option<u32>
+    ensures { MatchOption result (IsDenied miss) (λ slot. miss ≡ Miss.Away slot) }
+{
+    match miss {
+        Miss::Away(slot) => Some(slot),
+        Miss::Unmapped(_) | Miss::Denied(_) | Miss::NonCanonical(_) => None,
     }
 }
