@@ -1,5 +1,5 @@
 -- Reads and writes of files, in parts.
-use Rattle.std.proofs.Common.{◌≡◌, ℕ, ◌+◌, ◌-◌, ◌≤◌, ◌<◌, ◌^◌, ◌⊎◌, inl, inr, min, Bool, true, false, cond, List, [], ◌∷◌, ◌++◌, length, take, drop, slice_range, Option, Some, None, IsSome, is_some, Result, Ok, Err, refl, sym, ap, ◌∙◌, subst, arith, zero-add, length-append, length-take, length-drop, pos, ◌+ℤ◌}
+use Rattle.std.proofs.Common.{◌≡◌, ℕ, ◌+◌, ◌-◌, ◌≤◌, ◌<◌, ◌^◌, ◌⊎◌, inl, inr, min, Bool, true, false, cond, List, [], ◌∷◌, ◌++◌, length, take, drop, slice_range, Option, Some, None, IsSome, is_some, Result, Ok, Err, refl, sym, ap, ◌∙◌, subst, arith, zero-add, length-append, length-take, length-drop, ℤ, pos, ◌+ℤ◌}
 use Rattle.std.proofs.lemmas.Bool.{lt-ltb, cases_lt}
 use Rattle.std.proofs.lemmas.List.{drop-drop}
 use Rattle.std.proofs.Math.Seq.{take-add}
@@ -9,12 +9,12 @@ use Rattle.machine_state.specs.declared.kinds.Kind.TheVariants.{Read, Write}
 use Rattle.machine_state.specs.declared.kinds.Place.{Place}
 use Rattle.guest_pages.specs.Table.{perms_in}
 use Rattle.guest_pages.specs.Pages.{PagesValue, table_of, byte_of, memory_of}
-use Rattle.guest_files.specs.Checks.{is_stream}
+use Rattle.guest_files.specs.Checks.{does_write, is_stream}
 use Rattle.guest_files.specs.Content.{piece_of, count_below}
 use Rattle.guest_files.specs.Files.{FilesValue, AreFiles}
 use Rattle.guest_files.specs.Moves.{content_at, read_piece, written_at, seek_refusal, offset_after, offset_end}
 use Rattle.guest_transfers.specs.Pieces.{asked, pieces_from, spread, bytes_between, pieces_bytes}
-use Rattle.guest_transfers.specs.Moves.{Moved, Reads as ReadsTo, Writes as WritesTo, ReadsFile, Stops, blocked_access}
+use Rattle.guest_transfers.specs.Moves.{Moved, Reads as ReadsTo, Writes as WritesTo, ReadsFile, WritesFile, Stops, blocked_access}
 use Rattle.guest_transfers.specs.declared.kinds.Piece.{Piece}
 use Rattle.guest_transfers.specs.declared.kinds.Stop.{Stop}
 use Rattle.guest_transfers.specs.declared.kinds.Stop.TheVariants.{Whole, Away, Failed}
@@ -31,7 +31,7 @@ use Rattle.linux_calls.specs.Rest.{transfer_of}
 use Rattle.linux_calls.specs.View.{View, with_parts}
 use Rattle.linux_calls.specs.Following.{DoesPart, EndsAt, IsLowStop}
 use Rattle.linux_calls.specs.Waiting.{CanMove, NeedsIn}
-use Rattle.linux_calls.proofs.MoveLemmas.{world_moved, moving_needs, rest_moving, between_on}
+use Rattle.linux_calls.proofs.MoveLemmas.{needs_at_end, world_moved, moving_needs, rest_moving, between_on}
 
 pub part_at_end : (work : World → Called) (old new same : View) (result value : Result ℕ Halt) → new ≡ same → result ≡ value
     → DoesPart work old same value → DoesPart work old new result
@@ -40,10 +40,10 @@ part_at_end work old new same result value is_new is_result does =
 
 -- ---- offsets
 -- a move of an offset to a number that can be one
-pub seek_start : (files : FilesValue) (fd at : ℕ) → IsSome (place_at files.places fd) → is_stream (place_at files.places fd) ≡ false → at < 2 ^ 63
-    → (seek_refusal files fd (pos at) 0 ≡ None) × (offset_after files fd (pos at) 0 ≡ at)
+pub seek_start : (files : FilesValue) (fd at : ℕ) (to : ℤ) → to ≡ pos at → IsSome (place_at files.places fd) → is_stream (place_at files.places fd) ≡ false → at < 2 ^ 63
+    → (seek_refusal files fd to 0 ≡ None) × (offset_after files fd to 0 ≡ at)
 unfolding seek_refusal
-seek_start files fd at some file low = here (place_at files.places fd) refl some file
+seek_start files fd at to is_to some file low = rw is_to (here (place_at files.places fd) refl some file)
   where
     here : (place : Option Place) → place_at files.places fd ≡ place → IsSome place → is_stream place ≡ false
         → (seek_refusal files fd (pos at) 0 ≡ None) × (offset_after files fd (pos at) 0 ≡ at)
@@ -52,7 +52,7 @@ seek_start files fd at some file low = here (place_at files.places fd) refl some
 
 -- what a file has from an offset on ends with the file
 piece_ends : (content : List ℕ) (at most : ℕ) → length content < 2 ^ 32 → at < 2 ^ 63 → at + length (piece_of content at most) < 2 ^ 63
-piece_ends content at most short low = omega (arith, zero-add, length-append, length-take most (drop at content), length-drop at content)
+piece_ends content at most short low = omega (arith, length-take most (drop at content), length-drop at content)
 
 pub reads_low : (old new : PagesValue) (pieces : List Piece) (from : ℕ) (files : FilesValue) (fd at : ℕ) (stop : Stop) → AreFiles files → files.cap < 2 ^ 32
     → at + from < 2 ^ 63 → ReadsTo old new pieces from files fd at stop → IsLowStop stop at
@@ -181,3 +181,26 @@ module _ (v : View) (fd at : ℕ) (moves : Bool) (from : ℕ) (files : FilesValu
       ∙ ap (λ (f : FilesValue). writes_rest fd at moves v.progress.pieces done (with_files (with_parts swap v base) f)) here.1
       ∙ writes_more fd at moves v.progress.pieces from done (with_parts swap v base) stops.0 (let less = stops.1 in omega arith) here.0)
   writes_do Failed new result is writes stops ends = absurd ends
+
+-- a write leaves what descriptors stand for
+pub writes_places : (byte : ℕ → ℕ) (pieces : List Piece) (from : ℕ) (old new : FilesValue) (fd at : ℕ) (stop : Stop) → WritesTo byte pieces from old new fd at stop
+    → (new.places ≡ old.places)
+writes_places byte pieces from old new fd at (Whole done) writes = ap (λ (f : FilesValue). f.places) writes.1
+writes_places byte pieces from old new fd at (Away done slot) writes = ap (λ (f : FilesValue). f.places) writes.1
+writes_places byte pieces from old new fd at Failed writes = absurd writes
+
+pub writes_need : (v : View) (fd at : ℕ) (moves : Bool) (from : ℕ) (files : FilesValue) (stop : Stop) (new : View) (result : Result ℕ Halt)
+    → CanMove (Writes fd at moves) (perms_in (table_of v.pages)) v.files v.progress.pieces from
+    → ((done slot : ℕ) → stop ≡ Away done slot → transfer_of v.gprs files done ≡ Some (Writes fd at moves)) → files.places ≡ v.files.places → IsLowStop stop at
+    → Stops (blocked_access (table_of v.pages)) Read v.progress.pieces from stop → EndsAt stop fd at moves (record v { files = files }) new result → NeedsIn new result
+writes_need v fd at moves from files (Whole done) new result can is places low stops ends =
+    needs_at_end new (record v { files = left_at moves files fd (at + done) }) result (Ok done) ends.0 ends.1 tt
+writes_need v fd at moves from files (Away done slot) new result can is places low stops ends =
+    let file = can.other.0 in
+    let open_now : WritesFile files fd = record {
+      writes = subst (λ (ps : List (Option Place)). does_write (place_at ps fd) ≡ true) (sym places) file.writes;
+      file = subst (λ (ps : List (Option Place)). is_stream (place_at ps fd) ≡ false) (sym places) file.file;
+    } in
+    needs_at_end new (record v { files = files; progress = record { stage = Moving done; pieces = v.progress.pieces } }) result (Err (Need slot)) ends.0 ends.1
+    (moving_needs (Writes fd at moves) v v.pages files v.random from done slot can refl (is done slot refl) (open_now, low) stops.1 stops.3)
+writes_need v fd at moves from files Failed new result can is places low stops ends = absurd ends

@@ -7,3 +7,7 @@ pub mod MoveLemmas
 pub mod TakeLemmas
 pub mod PutLemmas
 pub mod FileMoves
+pub mod AppendLemmas
+pub mod DrawMoves
+pub mod WorkLemmas
+pub mod StartLemmas

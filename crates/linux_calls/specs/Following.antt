@@ -25,6 +25,7 @@ use Rattle.linux_calls.specs.Call.{Called, Gives, Exits, gives, refuses}
 use Rattle.linux_calls.specs.Parts.{cleared}
 use Rattle.linux_calls.specs.Transfers.{left_at}
 use Rattle.linux_calls.specs.Rest.{ProgressValue, rest_of, transfer_of, calls_in_call}
+use Rattle.linux_calls.specs.Waiting.{NeedsIn}
 use Rattle.linux_calls.specs.View.{View, view_of, SameParts, KeepsPages, StandsFor, with_parts}
 use Rattle.linux_calls.specs.Outside.{Standing, Streams, AreTold, Grown, Between, standing_in, with_standing}
 
@@ -172,3 +173,11 @@ abbrev pub IsLowStop : Stop → (at : ℕ) → Type 0
 IsLowStop (StopWhole done) at = at + done < 2 ^ 63
 IsLowStop (StopAway done slot) at = at + done < 2 ^ 63
 IsLowStop StopFailed at = ⊥
+
+-- ---- all of a piece of a call
+pub record Works (work : Whole → Called) (old new : World) (s s' : Streams) (f f' : Faults) (result : Result ℕ Halt) : Type 0 where
+  pub kept : Kept old new
+  pub comes : Comes work (TakesInput (view_of old) → IsSome s.left) (view_of old) (view_of new) s s' result
+  pub tells : StillTell s s'
+  pub needs : NeedsIn (view_of new) result
+  pub cause : IsCaused (failed_in result) f f'

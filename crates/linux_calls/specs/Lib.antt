@@ -9,5 +9,5 @@ pub mod Table
 pub mod Rest
 pub mod View
 pub mod Outside
-pub mod Following
 pub mod Waiting
+pub mod Following

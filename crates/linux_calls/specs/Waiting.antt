@@ -39,6 +39,15 @@ HasOther (Reads fd at moves) files pieces done = ReadsFile files fd × (at + don
 HasOther (Writes fd at moves) files pieces done = WritesFile files fd × (at + done < 2 ^ 63)
 HasOther Draws files pieces done = length pieces ≡ 1
 
+-- random bytes have one piece
+abbrev pub IsOne : Transfer → List Piece → Type 0
+IsOne Takes pieces = ⊤
+IsOne PutsOut pieces = ⊤
+IsOne PutsErr pieces = ⊤
+IsOne (Reads fd at moves) pieces = ⊤
+IsOne (Writes fd at moves) pieces = ⊤
+IsOne Draws pieces = length pieces ≡ 1
+
 pub record CanMove (transfer : Transfer) (perms : Permissions) (files : FilesValue) (pieces : List Piece) (done : ℕ) : Type 0 where
   pub allowed : are_allowed perms (kind_of transfer) pieces ≡ true
   pub most : asked pieces ≤ most_asked

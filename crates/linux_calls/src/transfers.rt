@@ -1,22 +1,32 @@
 //! Transfers between memory and streams, files and the random stream.
-ghost use Rattle.std.specs.Prelude.{◌≡◌, ◌<◌, ◌^◌, ℕ, false, List, Option, Some, IsSome, is_some};
+ghost use Rattle.std.specs.Prelude.{◌≡◌, ◌<◌, ◌≤◌, ◌^◌, ℕ, false, length, List, OnOk, Option, Some, IsSome, is_some};
+ghost use Rattle.std.specs.Result.{result_err};
 ghost use Rattle.machine_state.specs.World.{place_at};
 ghost use Rattle.guest_files.specs.Checks.{is_stream};
 ghost use Rattle.guest_files.specs.Files.{AreFiles};
 ghost use Rattle.guest_pages.specs.Table.{perms_in};
 ghost use Rattle.guest_pages.specs.Pages.{table_of};
+ghost use Rattle.guest_files.specs.Moves.{read_refusal, write_refusal};
+ghost use Rattle.guest_transfers.specs.declared.kinds.Piece.{Piece};
+ghost use Rattle.guest_transfers.specs.Moves.{ReadsFile, WritesFile};
+ghost use Rattle.guest_transfers.specs.Pieces.{asked, most_asked, single};
 ghost use Rattle.linux_calls.specs.Outside.{streams};
 ghost use Rattle.linux_calls.specs.Rest.{transfer_of};
-ghost use Rattle.linux_calls.specs.Transfers.{err_rest, left_at, out_rest, reads_rest, takes_rest, writes_rest};
+ghost use Rattle.linux_calls.specs.Transfers.{draws_rest, err_rest, kind_of as kind_of_spec, left_at, out_rest, reads_rest, refusal_of, takes_rest, transfer_rest, transferred, writes_rest};
 ghost use Rattle.linux_calls.specs.View.{view_of, FitParts, SameParts};
-ghost use Rattle.linux_calls.specs.Following.{Comes, DoesPart, Ends, EndsAt, IsCaused, IsLowStop, Kept, failed_in, faults};
-ghost use Rattle.linux_calls.specs.Waiting.{CanMove, NeedsIn};
+ghost use Rattle.linux_calls.specs.Following.{Comes, DoesPart, Ends, EndsAt, IsCaused, IsLowStop, Kept, Works, failed_in, faults};
+ghost use Rattle.linux_calls.specs.Waiting.{CanMove, HasOther, IsOne, NeedsIn};
 
+use crate::errnos::EFAULT;
 use crate::kinds::{Halt, Stage, Transfer};
 use crate::world::World;
-use guest_files::Files;
-use guest_transfers::{Stop, put_pieces, read_file, take_pieces, write_file};
+use guest_files::{Errno, Files};
+use guest_pages::Kind;
+use guest_transfers::{Piece, Stop, allowed_pieces, draw_bytes, put_pieces, read_file, take_pieces, total_len, write_file};
 use host_edge::{HostCall, Sink, Source};
+
+/// Offsets in files lie below this.
+const OFFSET_END: u64 = 1 << 63;
 
 // Ends a transfer, or leaves it waiting, by how it stopped.
 fn finish(w: &mut World, stop: Stop, call: HostCall) -> Result<u64, Halt>
@@ -43,7 +53,7 @@ fn take_on<S: Source>(w: &mut World, from: u64, input: &mut S) -> Result<u64, Ha
         (view_of w.old) (view_of w.new) (streams (S.left input.old) out err) (streams (S.left input.new) out err) result }
     ensures tells { is_some (S.left input.new) ≡ is_some (S.left input.old) }
     ensures needs { NeedsIn (view_of w.new) result }
-    ensures cause { IsCaused (failed_in result) (faults (S.faults input.old) 0 0) (faults (S.faults input.new) 0 0) }
+    ensures cause { (o e : ℕ) → IsCaused (failed_in result) (faults (S.faults input.old) o e) (faults (S.faults input.new) o e) }
 {
     let stop = take_pieces(w.pages, w.progress.pieces(), from, input);
     finish(w, stop, HostCall::Take)
@@ -59,7 +69,7 @@ fn out_on<O: Sink>(w: &mut World, from: u64, out: &mut O) -> Result<u64, Halt>
         (view_of w.old) (view_of w.new) (streams left (O.taken out.old) err) (streams left (O.taken out.new) err) result }
     ensures tells { is_some (O.taken out.new) ≡ is_some (O.taken out.old) }
     ensures needs { NeedsIn (view_of w.new) result }
-    ensures cause { IsCaused (failed_in result) (faults 0 (O.faults out.old) 0) (faults 0 (O.faults out.new) 0) }
+    ensures cause { (t e : ℕ) → IsCaused (failed_in result) (faults t (O.faults out.old) e) (faults t (O.faults out.new) e) }
 {
     let stop = put_pieces(w.pages, w.progress.pieces(), from, out);
     finish(w, stop, HostCall::PutOut)
@@ -75,7 +85,7 @@ fn err_on<E: Sink>(w: &mut World, from: u64, err: &mut E) -> Result<u64, Halt>
         (view_of w.old) (view_of w.new) (streams left out (E.taken err.old)) (streams left out (E.taken err.new)) result }
     ensures tells { is_some (E.taken err.new) ≡ is_some (E.taken err.old) }
     ensures needs { NeedsIn (view_of w.new) result }
-    ensures cause { IsCaused (failed_in result) (faults 0 0 (E.faults err.old)) (faults 0 0 (E.faults err.new)) }
+    ensures cause { (t o : ℕ) → IsCaused (failed_in result) (faults t o (E.faults err.old)) (faults t o (E.faults err.new)) }
 {
     let stop = put_pieces(w.pages, w.progress.pieces(), from, err);
     finish(w, stop, HostCall::PutErr)
@@ -152,4 +162,148 @@ fn write_on(w: &mut World, fd: u32, at: u64, moves: bool, from: u64) -> Result<u
     known(w.files);
     let stop = write_file(w.pages, w.progress.pieces(), from, w.files, fd, at);
     finish_at(w, stop, fd, at, moves)
+}
+
+// The one piece of a transfer.
+fn only(pieces: &[Piece]) -> Piece
+    requires { length pieces.now ≡ 1 }
+    ensures { pieces.now ≡ single result.addr result.len }
+{
+    pieces[0]
+}
+
+// Goes on with random bytes.
+fn draw_on(w: &mut World, from: u64) -> Result<u64, Halt>
+    requires is { (done : ℕ) → transfer_of w.old.gprs.now w.old.files.now done ≡ Some Transfer.Draws }
+    requires can { CanMove Transfer.Draws (perms_in (table_of w.old.pages.now)) w.old.files.now w.old.progress.now.pieces from }
+    requires fit { FitParts (view_of w.old) }
+    ensures kept { Kept w.old w.new }
+    ensures does { DoesPart (draws_rest w.old.progress.now.pieces from) (view_of w.old) (view_of w.new) result }
+    ensures needs { NeedsIn (view_of w.new) result }
+{
+    let piece = only(w.progress.pieces());
+    let stop = draw_bytes(w.pages, piece, from, w.random);
+    finish(w, stop, HostCall::Take)
+}
+
+/// Goes on with a transfer, from so many bytes on.
+pub(crate) fn move_on<S: Source, O: Sink, E: Sink>(
+    w: &mut World,
+    transfer: Transfer,
+    from: u64,
+    input: &mut S,
+    out: &mut O,
+    err: &mut E,
+) -> Result<u64, Halt>
+    requires is { transfer_of w.old.gprs.now w.old.files.now from ≡ Some transfer }
+    requires can { CanMove transfer (perms_in (table_of w.old.pages.now)) w.old.files.now w.old.progress.now.pieces from }
+    requires fit { FitParts (view_of w.old) }
+    ensures { Works (transfer_rest transfer w.old.progress.now.pieces from) w.old w.new
+        (streams (S.left input.old) (O.taken out.old) (E.taken err.old)) (streams (S.left input.new) (O.taken out.new) (E.taken err.new))
+        (faults (S.faults input.old) (O.faults out.old) (E.faults err.old)) (faults (S.faults input.new) (O.faults out.new) (E.faults err.new)) result }
+{
+    match transfer {
+        Transfer::Takes => take_on(w, from, input),
+        Transfer::PutsOut => out_on(w, from, out),
+        Transfer::PutsErr => err_on(w, from, err),
+        Transfer::Reads(fd, at, moves) => read_on(w, fd, at, moves, from),
+        Transfer::Writes(fd, at, moves) => write_on(w, fd, at, moves, from),
+        Transfer::Draws => draw_on(w, from),
+    }
+}
+
+// What a transfer does with memory.
+fn kind_of(transfer: Transfer) -> Kind
+    ensures { result ≡ kind_of_spec transfer }
+{
+    match transfer {
+        Transfer::Takes | Transfer::Reads(_, _, _) | Transfer::Draws => Kind::Write,
+        Transfer::PutsOut | Transfer::PutsErr | Transfer::Writes(_, _, _) => Kind::Read,
+    }
+}
+
+// Checks a read from a file.
+#[tactic(auto, unfolding(guest_files::specs::Moves::read_refusal))]
+fn check_read(files: &Files, fd: u32, at: u64) -> Result<(), Errno>
+    ensures answer { result_err result ≡ read_refusal files.now fd at }
+    ensures file { OnOk result (ReadsFile files.now fd) }
+    ensures low { OnOk result (at < 2 ^ 63) }
+{
+    match files.place(fd) {
+        Some(place) if place.reads => {
+            if place.file.is_none() {
+                return Err(Errno::ESPIPE);
+            }
+        }
+        _ => return Err(Errno::EBADF),
+    }
+    if at >= OFFSET_END {
+        return Err(Errno::EINVAL);
+    }
+    Ok(())
+}
+
+// Checks a write of so many bytes to a file.
+#[tactic(auto, unfolding(guest_files::specs::Moves::write_refusal))]
+fn check_write(files: &Files, fd: u32, at: u64, count: u64) -> Result<(), Errno>
+    ensures answer { result_err result ≡ write_refusal files.now fd at count }
+    ensures file { OnOk result (WritesFile files.now fd) }
+    ensures low { OnOk result (at < 2 ^ 63) }
+{
+    match files.place(fd) {
+        Some(place) if place.writes => {
+            if place.file.is_none() {
+                return Err(Errno::ESPIPE);
+            }
+        }
+        _ => return Err(Errno::EBADF),
+    }
+    if at >= OFFSET_END {
+        return Err(Errno::EINVAL);
+    }
+    if count > 0 && at >= u64::from(files.cap()) {
+        return Err(Errno::ENOSPC);
+    }
+    Ok(())
+}
+
+// Checks a transfer of so many bytes, all but its buffers.
+fn check(files: &Files, transfer: Transfer, count: u64) -> Result<(), Errno>
+    ensures answer { result_err result ≡ refusal_of transfer count files.now }
+    ensures other { OnOk result ((pieces : List Piece) → IsOne transfer pieces → HasOther transfer files.now pieces 0) }
+{
+    match transfer {
+        Transfer::Takes | Transfer::PutsOut | Transfer::PutsErr | Transfer::Draws => Ok(()),
+        Transfer::Reads(fd, at, _) => check_read(files, fd, at),
+        Transfer::Writes(fd, at, _) => check_write(files, fd, at, count),
+    }
+}
+
+/// Begins a transfer to or from the pieces that stand in the progress.
+pub(crate) fn begin<S: Source, O: Sink, E: Sink>(
+    w: &mut World,
+    transfer: Transfer,
+    input: &mut S,
+    out: &mut O,
+    err: &mut E,
+) -> Result<u64, Halt>
+    requires is { transfer_of w.old.gprs.now w.old.files.now 0 ≡ Some transfer }
+    requires one { IsOne transfer w.old.progress.now.pieces }
+    requires most { asked w.old.progress.now.pieces ≤ most_asked }
+    requires fit { FitParts (view_of w.old) }
+    ensures { Works (transferred transfer w.old.progress.now.pieces) w.old w.new
+        (streams (S.left input.old) (O.taken out.old) (E.taken err.old)) (streams (S.left input.new) (O.taken out.new) (E.taken err.new))
+        (faults (S.faults input.old) (O.faults out.old) (E.faults err.old)) (faults (S.faults input.new) (O.faults out.new) (E.faults err.new)) result }
+{
+    let count = total_len(w.progress.pieces());
+    match check(w.files, transfer, count) {
+        Ok(()) => {}
+        Err(errno) => return Err(Halt::Refused(errno)),
+    }
+    let kind = kind_of(transfer);
+    if allowed_pieces(w.pages, w.progress.pieces(), kind) {
+        move_on(w, transfer, 0, input, out, err)
+    } else {
+        Err(Halt::Refused(EFAULT))
+    }
 }
