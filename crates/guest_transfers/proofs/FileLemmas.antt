@@ -57,20 +57,24 @@ take_short n xs = ⊎_elim
 pub piece_short : (files : FilesValue) (fd at most : ℕ) → length (read_piece files fd at most) ≤ most
 piece_short files fd at most = omega (arith, length-take most (drop at (content_at files fd)))
 
+-- what is read, and what is read behind it
+pub piece-append : (files : FilesValue) (fd at count more : ℕ) → read_piece files fd at (count + more) ≡ read_piece files fd at count ++ read_piece files fd (at + count) more
+piece-append files fd at count more =
+    take-add count more (drop at (content_at files fd))
+    ∙ ap (λ (xs : List ℕ). take count (drop at (content_at files fd)) ++ take more xs) (drop-drop count at (content_at files fd))
+
 -- what was read, and what is read from there on
 pub read_on : (files : FilesValue) (fd at from done n : ℕ) → from ≤ done
     → read_piece files fd (at + from) (done - from) ++ read_piece files fd (at + done) n
     ≡ read_piece files fd (at + from) (done + length (read_piece files fd (at + done) n) - from)
 read_on files fd at from done n after =
-    let content = content_at files fd in
     let came = length (read_piece files fd (at + done) n) in
     let split : done + came - from ≡ done - from + came = omega arith in
     let place : at + from + (done - from) ≡ at + done = omega arith in
-    let rest : drop (done - from) (drop (at + from) content) ≡ drop (at + done) content = drop-drop (done - from) (at + from) content ∙ ap (λ (k : ℕ). drop k content) place in
-    ap (λ (xs : List ℕ). take (done - from) (drop (at + from) content) ++ xs) (sym (take_short n (drop (at + done) content)))
-    ∙ ap (λ (xs : List ℕ). take (done - from) (drop (at + from) content) ++ take came xs) (sym rest)
-    ∙ sym (take-add (done - from) came (drop (at + from) content))
-    ∙ ap (λ (k : ℕ). take k (drop (at + from) content)) (sym split)
+    ap (λ (xs : List ℕ). read_piece files fd (at + from) (done - from) ++ xs) (sym (take_short n (drop (at + done) (content_at files fd))))
+    ∙ ap (λ (k : ℕ). read_piece files fd (at + from) (done - from) ++ read_piece files fd k came) (sym place)
+    ∙ sym (piece-append files fd (at + from) (done - from) came)
+    ∙ ap (read_piece files fd (at + from)) (sym split)
 
 nothing_left : (xs : List ℕ) (n : ℕ) → 0 < n → length (take n xs) ≡ 0 → xs ≡ []
 nothing_left [] n some none = refl
@@ -80,15 +84,13 @@ nothing_left (x ∷ xs) n some none = absurd (let count = length-take n (x ∷ x
 pub read_ended : (files : FilesValue) (fd at from done n asked : ℕ) → from ≤ done → done ≤ asked → 0 < n → length (read_piece files fd (at + done) n) ≡ 0
     → read_piece files fd (at + from) (asked - from) ≡ read_piece files fd (at + from) (done - from)
 read_ended files fd at from done n asked after within some none =
-    let content = content_at files fd in
     let split : asked - from ≡ done - from + (asked - done) = omega arith in
     let place : at + from + (done - from) ≡ at + done = omega arith in
-    let rest : drop (done - from) (drop (at + from) content) ≡ [] =
-    drop-drop (done - from) (at + from) content ∙ ap (λ (k : ℕ). drop k content) place ∙ nothing_left (drop (at + done) content) n some none in
-    let empty : take (asked - done) (drop (done - from) (drop (at + from) content)) ≡ [] = rw rest (take_all (asked - done) [] (omega arith)) in
-    ap (λ (k : ℕ). take k (drop (at + from) content)) split
-    ∙ take-add (done - from) (asked - done) (drop (at + from) content)
-    ∙ rw empty (append-nil (take (done - from) (drop (at + from) content)))
+    let empty : read_piece files fd (at + from + (done - from)) (asked - done) ≡ [] =
+    rw (place, nothing_left (drop (at + done) (content_at files fd)) n some none) (take_all (asked - done) [] (omega arith)) in
+    ap (read_piece files fd (at + from)) split
+    ∙ piece-append files fd (at + from) (done - from) (asked - done)
+    ∙ rw empty (append-nil (read_piece files fd (at + from) (done - from)))
 
 -- ---- writing
 -- what stands before bytes that are written at an offset

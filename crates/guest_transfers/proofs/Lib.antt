@@ -4,3 +4,4 @@ pub mod FileLemmas
 pub mod DrawLemmas
 pub mod PathLemmas
 pub mod BufferLemmas
+pub mod Turns
