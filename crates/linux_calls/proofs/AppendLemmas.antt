@@ -23,7 +23,8 @@ use Rattle.linux_calls.specs.declared.kinds.Call.TheVariants.{Read, Write, Readv
 use Rattle.linux_calls.specs.declared.kinds.Transfer.{Transfer}
 use Rattle.linux_calls.specs.declared.kinds.Transfer.TheVariants.{Takes, PutsOut, PutsErr, Reads, Writes, Draws}
 use Rattle.linux_calls.specs.Call.{low, rax, rdi}
-use Rattle.linux_calls.specs.Transfers.{read_through, write_through, writes_at}
+use Rattle.linux_calls.specs.Transfers.{read_through, reads_at, write_through, writes_at}
+use Rattle.linux_calls.specs.Waiting.{IsListed, IsListedBy}
 use Rattle.linux_calls.specs.Table.{call_numbered}
 use Rattle.linux_calls.specs.Rest.{call_transfer, transfer_of}
 
@@ -218,3 +219,43 @@ steady gprs files from done transfer is_steady e = here (call_numbered (rax gprs
     here : (o : Option Call) → elim o [ None ↦ None | Some call ↦ call_transfer call gprs files from ] ≡ Some transfer → elim o [ None ↦ None | Some call ↦ call_transfer call gprs files done ] ≡ Some transfer
     here None h = h
     here (Some call) h = by_call call h
+
+-- ---- the transfers through a descriptor are none of random bytes
+listed_one : (o : Option Transfer) (t : Transfer) → o ≡ Some t → IsListedBy o → IsListed t
+listed_one o t e h = subst (λ (x : Option Transfer). IsListedBy x) e h
+
+reads_listed : (fd : ℕ) (place : Place) (t : Transfer) → reads_at fd place ≡ Some t → IsListed t
+reads_listed fd place t e = here place.reads (is_none place.file) (fd == 0) e
+  where
+    here : (reads stream zero_is : Bool) → cond (not reads) None (cond (not stream) (Some (Reads fd place.at true)) (cond zero_is (Some Takes) None)) ≡ Some t → IsListed t
+    here false stream z h = cc
+    here true false z h = listed_one (Some (Reads fd place.at true)) t h tt
+    here true true true h = listed_one (Some Takes) t h tt
+    here true true false h = cc
+
+writes_listed : (fd size done : ℕ) (place : Place) (t : Transfer) → writes_at fd size done place ≡ Some t → IsListed t
+writes_listed fd size done place t e = here place.writes (is_none place.file) (cond place.append (size - done) place.at) (fd == 1) (fd == 2) e
+  where
+    here : (writes stream : Bool) (at : ℕ) (one two : Bool)
+        → cond (not writes) None (cond (not stream) (Some (Writes fd at true)) (cond one (Some PutsOut) (cond two (Some PutsErr) None))) ≡ Some t → IsListed t
+    here false stream at one two h = cc
+    here true false at one two h = listed_one (Some (Writes fd at true)) t h tt
+    here true true at true two h = listed_one (Some PutsOut) t h tt
+    here true true at false true h = listed_one (Some PutsErr) t h tt
+    here true true at false false h = cc
+
+pub read_listed : (files : FilesValue) (fd : ℕ) (t : Transfer) → read_through files fd ≡ Some t → IsListed t
+unfolding read_through
+read_listed files fd t e = here (place_at files.places fd) e
+  where
+    here : (o : Option Place) → elim o [ None ↦ None | Some place ↦ reads_at fd place ] ≡ Some t → IsListed t
+    here None h = cc
+    here (Some place) h = reads_listed fd place t h
+
+pub write_listed : (files : FilesValue) (fd done : ℕ) (t : Transfer) → write_through files fd done ≡ Some t → IsListed t
+unfolding write_through
+write_listed files fd done t e = here (place_at files.places fd) e
+  where
+    here : (o : Option Place) → elim o [ None ↦ None | Some place ↦ writes_at fd (unwrap_or (size_at files fd) 0) done place ] ≡ Some t → IsListed t
+    here None h = cc
+    here (Some place) h = writes_listed fd (unwrap_or (size_at files fd) 0) done place t h

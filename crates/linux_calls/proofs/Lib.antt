@@ -11,3 +11,7 @@ pub mod AppendLemmas
 pub mod DrawMoves
 pub mod WorkLemmas
 pub mod StartLemmas
+pub mod ListLemmas
+pub mod PathLemmas
+pub mod CallLemmas
+pub mod SettleLemmas

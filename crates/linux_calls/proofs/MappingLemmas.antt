@@ -14,13 +14,12 @@ use Rattle.region_map.specs.declared.kinds.BreakFault.{BreakFault}
 use Rattle.region_map.specs.declared.kinds.BreakFault.TheVariants.{Below, Taken, Full as FullOfHeap}
 use Rattle.region_map.specs.Ranges.{changed_regions}
 use Rattle.region_map.specs.Calls.{RegionsValue, FitPages, IsChange, NoneIn, IsFirst, PassLimits, IsProtectFault, IsBreakFault, IsResized, HeapPasses, heap_pages, is_mapped, is_taken, highest_end, pages_up}
-use Rattle.linux_calls.specs.declared.kinds.Halt.TheVariants.{Refused}
 use Rattle.linux_calls.specs.Errnos.{enomem}
 use Rattle.linux_calls.specs.Call.{gives, refuses, rdi, rsi}
 use Rattle.linux_calls.specs.Parts.{passes_limits, with_change}
 use Rattle.linux_calls.specs.Mapping.{protected, unmapped, some_in, is_hole, break_stays, resized, resize_passes, mprotect_call, brk_call}
 use Rattle.linux_calls.specs.View.{View, with_parts}
-use Rattle.linux_calls.specs.Following.{Does}
+use Rattle.linux_calls.specs.Following.{DoesAtOnce}
 use Rattle.linux_calls.proofs.RangeLemmas.{scan, none_some, one_some, no_hole, one_hole, high_hole, limits_passed, limits_kept, pages_some}
 use Rattle.linux_calls.proofs.ChangeLemmas.{world_changed, world_changed_below, world_level}
 
@@ -39,7 +38,7 @@ module _ (v : View) (perms : Perms) (from count : ℕ) (low : from + count ≤ h
 
   pub protected_done : (pages : PagesValue) (regions : RegionsValue) → Never → IsChange (Protect perms) from (from + count) v.regions.regions regions.regions v.pages pages
       → FitPages pages regions.regions → regions.heap ≡ v.regions.heap → regions.at ≡ v.regions.at
-      → Does (protected perms from count) v (record v { pages = pages; regions = regions }) (Ok 0)
+      → DoesAtOnce (protected perms from count) v (record v { pages = pages; regions = regions }) (Ok 0)
   unfolding protected
   protected_done pages regions never is fit heap at swap base =
       let none = none_unmapped never in
@@ -47,7 +46,7 @@ module _ (v : View) (perms : Perms) (from count : ℕ) (low : from + count ≤ h
       let limits = limits_kept v.pages (changed_regions (Protect perms) from (from + count) v.regions.regions) (λ pass. never FullOfParts (none, pass)) in
       rw (hole, limits) (ap (gives 0) (world_changed_below v (Protect perms) from (from + count) pages regions swap base is fit heap at))
 
-  refused_by : (fault : ProtectFault) → IsProtectFault v.regions.regions v.pages perms from (from + count) fault → Does (protected perms from count) v v (Err (Refused enomem))
+  refused_by : (fault : ProtectFault) → IsProtectFault v.regions.regions v.pages perms from (from + count) fault → DoesAtOnce (protected perms from count) v v (Err enomem)
   unfolding protected
   refused_by (Hole addr) fault swap base = rw (one_hole v.regions.regions from count fault.0 fault.2) refl
   refused_by FullOfParts fault swap base =
@@ -56,7 +55,7 @@ module _ (v : View) (perms : Perms) (from count : ℕ) (low : from + count ≤ h
       rw (hole, limits) refl
 
   pub protected_refused : (pages : PagesValue) (regions : RegionsValue) (fault : ProtectFault) → IsProtectFault v.regions.regions v.pages perms from (from + count) fault
-      → regions ≡ v.regions → pages ≡ v.pages → Does (protected perms from count) v (record v { pages = pages; regions = regions }) (Err (Refused enomem))
+      → regions ≡ v.regions → pages ≡ v.pages → DoesAtOnce (protected perms from count) v (record v { pages = pages; regions = regions }) (Err enomem)
   protected_refused pages regions fault is same_regions same_pages = rw (same_regions, same_pages) (refused_by fault is)
 
 -- ---- munmap
@@ -64,21 +63,21 @@ module _ (v : View) (from to : ℕ) where
   pub unmapped_done : (pages : PagesValue) (regions : RegionsValue) → (PassLimits v.pages (changed_regions Unmap from to v.regions.regions) → ⊥)
       → IsChange Unmap from to v.regions.regions regions.regions v.pages pages
       → FitPages pages regions.regions → regions.heap ≡ v.regions.heap → regions.at ≡ v.regions.at
-      → Does (unmapped from to) v (record v { pages = pages; regions = regions }) (Ok 0)
+      → DoesAtOnce (unmapped from to) v (record v { pages = pages; regions = regions }) (Ok 0)
   unfolding unmapped
   unmapped_done pages regions never is fit heap at swap base =
       rw (limits_kept v.pages (changed_regions Unmap from to v.regions.regions) never)
       (ap (gives 0) (world_changed_below v Unmap from to pages regions swap base is fit heap at))
 
   pub unmapped_refused : (pages : PagesValue) (regions : RegionsValue) → PassLimits v.pages (changed_regions Unmap from to v.regions.regions)
-      → regions ≡ v.regions → pages ≡ v.pages → Does (unmapped from to) v (record v { pages = pages; regions = regions }) (Err (Refused enomem))
+      → regions ≡ v.regions → pages ≡ v.pages → DoesAtOnce (unmapped from to) v (record v { pages = pages; regions = regions }) (Err enomem)
   unfolding unmapped
   unmapped_refused pages regions pass same_regions same_pages =
       rw (same_regions, same_pages) (λ swap base. rw (limits_passed v.pages (changed_regions Unmap from to v.regions.regions) pass) refl)
 
 -- a range that passes the last page
 pub mprotect_high : (v : View) → rdi v.gprs % page_size ≡ 0 → 0 < rsi v.gprs → highest_end < rdi v.gprs / page_size + pages_up (rsi v.gprs)
-    → Does mprotect_call v v (Err (Refused enomem))
+    → DoesAtOnce mprotect_call v v (Err enomem)
 unfolding mprotect_call protected
 mprotect_high v page some high swap base =
     let some_pages : 0 < pages_up (rsi v.gprs) = pages_some (rsi v.gprs) some in
@@ -156,7 +155,7 @@ module _ (v : View) (to : ℕ) where
 
   pub brk_done : (pages : PagesValue) (regions : RegionsValue) → rdi v.gprs ≡ to → BreakNever → IsResized old_end new_end v.regions.regions regions.regions v.pages pages
       → FitPages pages regions.regions → regions.heap ≡ v.regions.heap → regions.at ≡ to
-      → Does brk_call v (record v { pages = pages; regions = regions }) (Ok to)
+      → DoesAtOnce brk_call v (record v { pages = pages; regions = regions }) (Ok to)
   unfolding brk_call
   brk_done pages regions is_to never is fit heap at swap base =
       let above = above_heap never in
@@ -176,7 +175,7 @@ module _ (v : View) (to : ℕ) where
   stays_by FullOfHeap swap base fault = rw (le-ltb to v.regions.heap fault.0, none_taken fault.1, resize_passed fault.2) refl
 
   pub brk_stays : (pages : PagesValue) (regions : RegionsValue) (fault : BreakFault) (value : ℕ) → rdi v.gprs ≡ to → IsBreakFault v.regions v.pages to fault
-      → regions ≡ v.regions → pages ≡ v.pages → value ≡ regions.at → Does brk_call v (record v { pages = pages; regions = regions }) (Ok value)
+      → regions ≡ v.regions → pages ≡ v.pages → value ≡ regions.at → DoesAtOnce brk_call v (record v { pages = pages; regions = regions }) (Ok value)
   unfolding brk_call
   brk_stays pages regions fault value is_to is same_regions same_pages at swap base =
       rw (at, same_regions, same_pages, is_to, stays_by fault swap base is) refl

@@ -1,9 +1,10 @@
 -- How transfers begin.
-use Rattle.std.proofs.Common.{◌≡◌, ℕ, ◌^◌, ◌-◌, ◌≤◌, Bool, true, false, min, List, Option, Some, None, Result, Err, refl, sym, ap, ◌∙◌, subst, arith}
+use Rattle.std.proofs.Common.{◌≡◌, ℕ, ◌^◌, ◌-◌, ◌≤◌, Bool, true, false, min, List, [], ◌∷◌, Option, Some, None, Result, Err, refl, sym, ap, ◌∙◌, subst, arith}
 use Rattle.machine_state.specs.Memory.{Swap}
 use Rattle.machine_state.specs.World.{World}
 use Rattle.guest_pages.specs.Table.{perms_in}
 use Rattle.guest_pages.specs.Pages.{table_of, memory_of}
+use Rattle.guest_files.specs.Files.{FilesValue}
 use Rattle.guest_files.specs.declared.errno.Errno.{Errno}
 use Rattle.guest_transfers.specs.Pieces.{are_allowed, asked, most_asked}
 use Rattle.guest_transfers.specs.declared.kinds.Piece.{Piece}
@@ -11,7 +12,11 @@ use Rattle.linux_calls.specs.declared.kinds.Halt.TheVariants.{Refused}
 use Rattle.linux_calls.specs.declared.kinds.Transfer.{Transfer}
 use Rattle.linux_calls.specs.Errnos.{efault}
 use Rattle.linux_calls.specs.Call.{unless}
-use Rattle.linux_calls.specs.Transfers.{kind_of, refusal_of, transfer_rest, transferred}
+use Rattle.linux_calls.specs.Transfers.{begun, kind_of, named_piece, refusal_of, transfer_rest, transferred}
+use Rattle.linux_calls.specs.declared.kinds.Call.{Call}
+use Rattle.linux_calls.specs.Call.{rax}
+use Rattle.linux_calls.specs.Table.{call_numbered}
+use Rattle.linux_calls.specs.Rest.{call_transfer, transfer_of}
 use Rattle.linux_calls.specs.View.{View, with_parts}
 use Rattle.linux_calls.specs.Following.{DoesPart}
 
@@ -35,3 +40,13 @@ module _ (transfer : Transfer) (pieces : List Piece) (v : View) (count : ℕ) (m
       → (swap : Swap) (base : World) → transferred transfer pieces (with_parts swap v base) ≡ transfer_rest transfer pieces 0 (with_parts swap v base)
   unfolding transferred memory_of
   transferred_moves e allowed swap base = rw (refusal_here None e, allowed) refl
+
+pub begun_some : (o : Option Transfer) (transfer : Transfer) (pieces pieces' : List Piece) (w : World) → o ≡ Some transfer → pieces ≡ pieces' → begun o pieces w ≡ transferred transfer pieces' w
+begun_some o transfer pieces pieces' w is same = rw (is, same) refl
+
+pub named_is : (addr len len' : ℕ) (pieces : List Piece) → len' ≡ min len 2147479552 → pieces ≡ record { addr = addr; len = len' } ∷ [] → named_piece addr len ≡ pieces
+named_is addr len len' pieces is pieces_are = rw (pieces_are, is) refl
+
+pub transfer_by : (call : Call) (gprs : List ℕ) (files : FilesValue) (done : ℕ) → call_numbered (rax gprs) ≡ Some call → transfer_of gprs files done ≡ call_transfer call gprs files done
+unfolding transfer_of
+transfer_by call gprs files done is = rw (is, transfer_of) refl

@@ -7,6 +7,7 @@ use Rattle.linux_calls.specs.declared.world.World.{World}
 use Rattle.linux_calls.specs.declared.kinds.Halt.{Halt}
 use Rattle.linux_calls.specs.declared.kinds.Halt.TheVariants.{Refused, Need, Failed}
 use Rattle.linux_calls.specs.Call.{Called, gives, refuses}
+use Rattle.linux_calls.specs.Rest.{ProgressValue}
 use Rattle.linux_calls.specs.View.{View, view_of, SameParts, KeepsPages, FitParts, with_parts}
 use Rattle.linux_calls.specs.Outside.{Standing, Streams, AreTold, Grown, standing_in, with_standing}
 use Rattle.linux_calls.specs.Waiting.{NeedsIn}
@@ -63,3 +64,40 @@ works_as work other old new s s' f f' result same works = record {
   needs = works.needs;
   cause = works.cause;
 }
+
+pub works_same : {work other : Whole → Called} {old new : World} {s s' : Streams} {f f' : Faults} {result : Result ℕ Halt}
+    → Works other old new s s' f f' result → ((swap : Swap) (base : Whole) → work (with_parts swap (view_of old) base) ≡ other (with_parts swap (view_of old) base))
+    → Works work old new s s' f f' result
+works_same {work} {other} {old} {new} {s} {s'} {f} {f'} {result} works same = works_as work other old new s s' f f' result same works
+
+-- a piece from parts that differ in their progress alone
+pub works_from : {work : Whole → Called} {old mid new : World} {s s' : Streams} {f f' : Faults} {result : Result ℕ Halt} (progress : ProgressValue)
+    → Works work mid new s s' f f' result → SameParts old mid → view_of mid ≡ record (view_of old) { progress = progress } → Works work old new s s' f f' result
+works_from {work} {old} {mid} {new} {s} {s'} {f} {f'} {result} progress works parts view =
+    let now : View = record (view_of old) { progress = progress } in
+    let pages : KeepsPages now (view_of new) = subst (λ (v : View). KeepsPages v (view_of new)) view works.kept.pages in
+    let same = works.kept.parts in
+    record {
+      kept = record {
+        parts = record {
+          gprs = same.gprs ∙ parts.gprs;
+          fs = same.fs ∙ parts.fs;
+          gs = same.gs ∙ parts.gs;
+          pages = same.pages ∙ parts.pages;
+          regions = same.regions ∙ parts.regions;
+          files = same.files ∙ parts.files;
+          random = same.random ∙ parts.random;
+          progress = same.progress ∙ parts.progress;
+          steps = same.steps ∙ parts.steps;
+        };
+        pages = record { fit = pages.fit; size = pages.size; resident = pages.resident };
+      };
+      comes = subst (λ (v : View). Comes work (TakesInput v → IsSome s.left) v (view_of new) s s' result) view works.comes;
+      tells = works.tells;
+      needs = works.needs;
+      cause = works.cause;
+    }
+
+pub works_part : {work : Whole → Called} {old new : World} {s : Streams} {f : Faults} {result : Result ℕ Halt} → Kept old new
+    → DoesPart work (view_of old) (view_of new) result → NeedsIn (view_of new) result → Works work old new s s f f result
+works_part {work} {old} {new} {s} {f} {result} kept does needs = works_of_part work old new s f result kept does needs

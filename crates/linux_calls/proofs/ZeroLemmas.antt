@@ -16,7 +16,7 @@ use Rattle.linux_calls.specs.Call.{gives}
 use Rattle.linux_calls.specs.Parts.{cleared}
 use Rattle.linux_calls.specs.Mapping.{some_in, is_hole, is_file_page, discarded, with_zeros}
 use Rattle.linux_calls.specs.View.{View, with_parts, FitParts, KeepsPages}
-use Rattle.linux_calls.specs.Following.{AreZeroed, Does}
+use Rattle.linux_calls.specs.Following.{AreZeroed, DoesAtOnce}
 use Rattle.linux_calls.proofs.RangeLemmas.{scan, one_some}
 
 -- no page passes the test
@@ -113,6 +113,6 @@ world_zeroed v from to pages swap base are =
     ∙ ap (λ (n : ℕ). in_place w (memory_of pages swap) n) (sym are.size.pages)
 
 pub discarded_done : (v : View) (from count : ℕ) (pages : PagesValue) → some_in (is_file_page v.regions.regions) from count ≡ false → AreZeroed from (from + count) v.pages pages
-    → Does (discarded from count) v (record v { pages = pages }) (Ok 0)
+    → DoesAtOnce (discarded from count) v (record v { pages = pages }) (Ok 0)
 unfolding discarded
 discarded_done v from count pages none are swap base = rw none (ap (gives 0) (world_zeroed v from (from + count) pages swap base are))

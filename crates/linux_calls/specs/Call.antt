@@ -61,7 +61,7 @@ gives value w = record { outcome = Gives value; world = answered w value }
 
 -- an error as a register has it: its number, negative
 abbrev pub negative : Errno → ℕ
-negative errno = 2 ^ 64 - errno.0
+negative errno = (2 ^ 64 - errno.0) % 2 ^ 64
 
 abbrev pub refuses : Errno → World → Called
 refuses errno w = gives (negative errno) w

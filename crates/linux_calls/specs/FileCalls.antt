@@ -60,12 +60,16 @@ open_path fd (Text path) flags w = opened_from fd path flags w
 open_path fd TooLong flags w = refuses enametoolong w
 open_path fd Fault flags w = refuses efault w
 
+-- the path at an address is opened
+unfoldable pub open_path_at : (fd addr flags : ℕ) → World → Called
+open_path_at fd addr flags w = open_path fd (path_at w.state.memory addr) flags w
+
 unfoldable pub open_call : World → Called
 open_call w =
     let gprs = w.state.gprs in
-    open_path working_directory (path_at w.state.memory (rdi gprs)) (low (rsi gprs)) w
+    open_path_at working_directory (rdi gprs) (low (rsi gprs)) w
 
 unfoldable pub openat_call : World → Called
 openat_call w =
     let gprs = w.state.gprs in
-    open_path (low (rdi gprs)) (path_at w.state.memory (rsi gprs)) (low (rdx gprs)) w
+    open_path_at (low (rdi gprs)) (rsi gprs) (low (rdx gprs)) w

@@ -1,5 +1,5 @@
 -- How a call of the code follows the written one, whatever the swap holds.
-use Rattle.std.specs.Prelude.{◌≡◌, ◌+◌, ◌<◌, ◌^◌, ℕ, Bool, List, Contains, length, Option, Some, None, IsSome, is_some, Result, Ok, Err}
+use Rattle.std.specs.Prelude.{◌≡◌, ◌+◌, ◌<◌, ◌^◌, ◌%◌, ℕ, Bool, if◌then◌else◌, List, Contains, length, slice_set, Option, Some, None, IsSome, is_some, Result, Ok, Err}
 use Rattle.std.specs.Int.{w64, cast_unsigned}
 use Rattle.machine_state.specs.declared.kinds.Miss.{Miss}
 use Rattle.machine_state.specs.declared.kinds.Miss.TheVariants.{Unmapped, Denied, NonCanonical, Away}
@@ -18,14 +18,18 @@ use Rattle.linux_calls.specs.declared.kinds.Halt.{Halt}
 use Rattle.linux_calls.specs.declared.kinds.Halt.TheVariants.{Refused, Need, Failed}
 use Rattle.guest_transfers.specs.declared.kinds.Stop.{Stop}
 use Rattle.guest_transfers.specs.declared.kinds.Stop.TheVariants.{Whole as StopWhole, Away as StopAway, Failed as StopFailed}
-use Rattle.linux_calls.specs.declared.kinds.Stage.TheVariants.{Moving}
+use Rattle.gpr_flags.specs.Registers.{RAX}
+use Rattle.linux_calls.specs.declared.kinds.Call.{Call}
+use Rattle.linux_calls.specs.declared.kinds.Stage.TheVariants.{Start, Moving}
 use Rattle.linux_calls.specs.declared.kinds.Transfer.TheVariants.{Takes}
+use Rattle.guest_files.specs.declared.errno.Errno.{Errno}
 use Rattle.linux_calls.specs.Errnos.{efault}
-use Rattle.linux_calls.specs.Call.{Called, Gives, Exits, gives, refuses}
+use Rattle.linux_calls.specs.Call.{Called, Gives, Exits, gives, negative, refuses, rax, rdi}
 use Rattle.linux_calls.specs.Parts.{cleared}
 use Rattle.linux_calls.specs.Transfers.{left_at}
 use Rattle.linux_calls.specs.Rest.{ProgressValue, rest_of, transfer_of, calls_in_call}
-use Rattle.linux_calls.specs.Waiting.{NeedsIn}
+use Rattle.linux_calls.specs.Table.{call_numbered, ends_guest}
+use Rattle.linux_calls.specs.Waiting.{NeedsIn, is_start}
 use Rattle.linux_calls.specs.View.{View, view_of, SameParts, KeepsPages, StandsFor, with_parts}
 use Rattle.linux_calls.specs.Outside.{Standing, Streams, AreTold, Grown, Between, standing_in, with_standing}
 
@@ -42,6 +46,11 @@ Does work old new (Ok value) = (swap : Swap) (base : Whole) → work (with_parts
 Does work old new (Err (Refused errno)) = (swap : Swap) (base : Whole) → work (with_parts swap old base) ≡ refuses errno (with_parts swap new base)
 Does work old new (Err (Need slot)) = new ≡ old
 Does work old new (Err (Failed call)) = ⊥
+
+-- the same of a piece that never waits
+abbrev pub DoesAtOnce : (Whole → Called) → View → View → Result ℕ Errno → Type 0
+DoesAtOnce work old new (Ok value) = (swap : Swap) (base : Whole) → work (with_parts swap old base) ≡ gives value (with_parts swap new base)
+DoesAtOnce work old new (Err errno) = (swap : Swap) (base : Whole) → work (with_parts swap old base) ≡ refuses errno (with_parts swap new base)
 
 -- the same of a call that may wait with a part of it done: what is left of it then is what was left of it before
 abbrev pub DoesPart : (Whole → Called) → View → View → Result ℕ Halt → Type 0
@@ -181,3 +190,28 @@ pub record Works (work : Whole → Called) (old new : World) (s s' : Streams) (f
   pub tells : StillTell s s'
   pub needs : NeedsIn (view_of new) result
   pub cause : IsCaused (failed_in result) f f'
+
+-- ---- how a piece of a call becomes its end
+-- the parts with an answer in rax, before the next call
+abbrev pub answered_view : View → (value : ℕ) → View
+answered_view v value = record v { gprs = slice_set v.gprs RAX value; progress = record { stage = Start; pieces = v.progress.pieces } }
+
+abbrev pub IsValue : CallEnd → (value : ℕ) → Type 0
+IsValue (Value given) value = cast_unsigned w64 given ≡ value
+IsValue (Exit code) value = ⊥
+IsValue (NeedEnd slot) value = ⊥
+IsValue (Host call) value = ⊥
+
+abbrev pub Settles : Result ℕ Halt → View → View → CallEnd → Type 0
+Settles (Ok value) old new end = (new ≡ answered_view old value) × IsValue end value
+Settles (Err (Refused errno)) old new end = (new ≡ answered_view old (negative errno)) × IsValue end (negative errno)
+Settles (Err (Need slot)) old new end = (new ≡ old) × (end ≡ NeedEnd slot)
+Settles (Err (Failed call)) old new end = (new ≡ old) × (end ≡ Host call)
+
+-- the status with which a call ends the guest, if it does
+abbrev pub exit_by : Option Call → List ℕ → Option ℕ
+exit_by None gprs = None
+exit_by (Some call) gprs = if ends_guest call then Some (rdi gprs % 2 ^ 8) else None
+
+unfoldable pub exit_of : View → Option ℕ
+exit_of v = if is_start v.progress.stage then exit_by (call_numbered (rax v.gprs)) v.gprs else None

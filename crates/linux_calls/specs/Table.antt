@@ -1,5 +1,5 @@
 -- The system calls that there are, and what each does.
-use Rattle.std.specs.Prelude.{ℕ, ◌%◌, ◌^◌, ◌==◌, if◌then◌else◌, List, [], ◌∷◌, Option, Some, None}
+use Rattle.std.specs.Prelude.{ℕ, ◌%◌, ◌^◌, ◌==◌, Bool, true, false, if◌then◌else◌, List, [], ◌∷◌, Option, Some, None}
 use Rattle.machine_state.specs.State.{State}
 use Rattle.machine_state.specs.World.{World}
 use Rattle.linux_calls.specs.declared.kinds.Call.{Call}
@@ -55,6 +55,34 @@ call_numbered number = named numbers number
 -- the process and its only thread have this number
 abbrev pub process_id : ℕ
 process_id = 1
+
+-- whether a call ends the guest
+abbrev pub ends_guest : Call → Bool
+ends_guest Read = false
+ends_guest Write = false
+ends_guest Open = false
+ends_guest Close = false
+ends_guest Fstat = false
+ends_guest Lseek = false
+ends_guest Mmap = false
+ends_guest Mprotect = false
+ends_guest Munmap = false
+ends_guest Brk = false
+ends_guest Ioctl = false
+ends_guest Pread64 = false
+ends_guest Pwrite64 = false
+ends_guest Readv = false
+ends_guest Writev = false
+ends_guest Madvise = false
+ends_guest Getpid = false
+ends_guest Exit = true
+ends_guest Uname = false
+ends_guest ArchPrctl = false
+ends_guest SetTidAddress = false
+ends_guest ClockGettime = false
+ends_guest ExitGroup = true
+ends_guest Openat = false
+ends_guest Getrandom = false
 
 -- the guest ends with the low 8 bits of rdi
 abbrev pub exit_call : World → Called

@@ -1,5 +1,5 @@
 -- Where a call may go on, and for which page it waits.
-use Rattle.std.specs.Prelude.{◌≡◌, ◌≤◌, ◌<◌, ◌+◌, ◌*◌, ◌^◌, ℕ, true, ⊤, List, length, Option, Some, None, IsSome, Result, Ok, Err}
+use Rattle.std.specs.Prelude.{◌≡◌, ◌≤◌, ◌<◌, ◌+◌, ◌*◌, ◌^◌, ℕ, Bool, true, false, ⊤, List, length, Option, Some, None, IsSome, Result, Ok, Err}
 use Rattle.machine_state.specs.declared.kinds.Kind.TheVariants.{Write}
 use Rattle.machine_state.specs.declared.kinds.Miss.TheVariants.{Away}
 use Rattle.machine_state.specs.Memory.{Permissions, page_size}
@@ -58,9 +58,29 @@ abbrev pub CanMoveBy : Option Transfer → Permissions → FilesValue → List P
 CanMoveBy None perms files pieces done = ⊥
 CanMoveBy (Some transfer) perms files pieces done = CanMove transfer perms files pieces done
 
+-- whether a call begins
+abbrev pub is_start : Stage → Bool
+is_start Start = true
+is_start Listing = false
+is_start (Moving done) = false
+is_start (Copying at done) = false
+
+-- the transfers that a list of buffers is read for
+abbrev pub IsListed : Transfer → Type 0
+IsListed Takes = ⊤
+IsListed PutsOut = ⊤
+IsListed PutsErr = ⊤
+IsListed (Reads fd at moves) = ⊤
+IsListed (Writes fd at moves) = ⊤
+IsListed Draws = ⊥
+
+abbrev pub IsListedBy : Option Transfer → Type 0
+IsListedBy None = ⊥
+IsListedBy (Some transfer) = IsListed transfer
+
 -- a list of buffers goes on behind those that have been read
 pub record CanList (transfer : Option Transfer) (gprs : List ℕ) (pieces : List Piece) : Type 0 where
-  pub transfers : IsSome transfer
+  pub listed : IsListedBy transfer
   pub most : rdx gprs ≤ most_buffers
   pub within : length pieces ≤ rdx gprs
   pub place : record_place (rsi gprs) (length pieces) < 2 ^ 64
@@ -157,3 +177,67 @@ NeedsRecordIn v addr count (Ok value) = ⊤
 NeedsRecordIn v addr count (Err (Refused errno)) = ⊤
 NeedsRecordIn v addr count (Err (Need slot)) = NeedsRecord v addr count slot
 NeedsRecordIn v addr count (Err (Failed call)) = ⊥
+
+-- where a call that reads a path waits
+abbrev pub NeedsPathIn : View → (addr : ℕ) → Result ℕ Halt → Type 0
+NeedsPathIn v addr (Ok value) = ⊤
+NeedsPathIn v addr (Err (Refused errno)) = ⊤
+NeedsPathIn v addr (Err (Need slot)) = PathWaits v.pages addr slot
+NeedsPathIn v addr (Err (Failed call)) = ⊥
+
+-- ---- kinds of calls
+-- the calls that never wait, other than exit
+abbrev pub IsQuick : Call → Type 0
+IsQuick Read = ⊥
+IsQuick WriteCall = ⊥
+IsQuick Open = ⊥
+IsQuick Close = ⊤
+IsQuick Fstat = ⊥
+IsQuick Lseek = ⊤
+IsQuick Mmap = ⊥
+IsQuick Mprotect = ⊤
+IsQuick Munmap = ⊤
+IsQuick Brk = ⊤
+IsQuick Ioctl = ⊤
+IsQuick Pread64 = ⊥
+IsQuick Pwrite64 = ⊥
+IsQuick Readv = ⊥
+IsQuick Writev = ⊥
+IsQuick Madvise = ⊤
+IsQuick Getpid = ⊤
+IsQuick Exit = ⊥
+IsQuick Uname = ⊥
+IsQuick ArchPrctl = ⊥
+IsQuick SetTidAddress = ⊤
+IsQuick ClockGettime = ⊥
+IsQuick ExitGroup = ⊥
+IsQuick Openat = ⊥
+IsQuick Getrandom = ⊥
+
+-- the calls that read a path or write a record, and mmap
+abbrev pub IsSlow : Call → Type 0
+IsSlow Read = ⊥
+IsSlow WriteCall = ⊥
+IsSlow Open = ⊤
+IsSlow Close = ⊥
+IsSlow Fstat = ⊤
+IsSlow Lseek = ⊥
+IsSlow Mmap = ⊤
+IsSlow Mprotect = ⊥
+IsSlow Munmap = ⊥
+IsSlow Brk = ⊥
+IsSlow Ioctl = ⊥
+IsSlow Pread64 = ⊥
+IsSlow Pwrite64 = ⊥
+IsSlow Readv = ⊥
+IsSlow Writev = ⊥
+IsSlow Madvise = ⊥
+IsSlow Getpid = ⊥
+IsSlow Exit = ⊥
+IsSlow Uname = ⊤
+IsSlow ArchPrctl = ⊤
+IsSlow SetTidAddress = ⊥
+IsSlow ClockGettime = ⊤
+IsSlow ExitGroup = ⊥
+IsSlow Openat = ⊤
+IsSlow Getrandom = ⊥

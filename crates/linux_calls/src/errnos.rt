@@ -1,5 +1,5 @@
 //! The errors that calls answer beside those of the calls on files.
-ghost use Rattle.std.specs.Prelude.{◌≡◌, ◌^◌, ◌<◌};
+ghost use Rattle.std.specs.Prelude.{◌≡◌};
 ghost use Rattle.linux_calls.specs.Call.{negative as negative_spec};
 
 use guest_files::Errno;
@@ -22,8 +22,7 @@ pub(crate) const ENOSYS: Errno = Errno(38);
 
 /// An error as a register has it.
 pub(crate) fn negative(errno: Errno) -> u64
-    requires { 0 < errno.0 }
     ensures { result ≡ negative_spec errno }
 {
-    u64::MAX - u64::from(errno.0) + 1
+    0u64.wrapping_sub(u64::from(errno.0))
 }

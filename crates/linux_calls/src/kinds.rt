@@ -2,7 +2,8 @@
 
 use arrayvec::ArrayVec;
 use guest_files::Errno;
-use guest_transfers::Piece;
+use guest_pages::Pages;
+use guest_transfers::{ListRead, Piece, read_list};
 use host_edge::HostCall;
 use std::marker::Model;
 
@@ -109,7 +110,9 @@ impl Model for Progress {
 }
 
 impl Progress {
-    ghost use Rattle.std.specs.Prelude.{◌≡◌, ◌<◌, []};
+    ghost use Rattle.std.specs.Prelude.{◌≡◌, ◌<◌, ◌≤◌, ◌^◌, [], ◌∷◌, length};
+    ghost use Rattle.guest_transfers.specs.Buffers.{most_buffers};
+    ghost use Rattle.guest_transfers.specs.Moves.{ReadsList, record_place};
     ghost use Rattle.linux_calls.specs.Rest.{ProgressValue};
 
     /// Before a call.
@@ -140,6 +143,25 @@ impl Progress {
         ensures { self.new ≡ record (self.old) { stage = stage } }
     {
         self.stage = stage;
+    }
+
+    /// A transfer has this piece alone.
+    pub(crate) fn set(&mut self, piece: Piece)
+        ensures { self.new ≡ record (self.old) { pieces = piece ∷ [] } }
+    {
+        self.pieces.clear();
+        self.pieces.push(piece);
+    }
+
+    /// Reads buffers of a list behind those that were read.
+    pub(crate) fn read(&mut self, pages: &Pages, addr: u64, count: u64) -> ListRead
+        requires most { count ≤ most_buffers }
+        requires within { length self.old.pieces ≤ count }
+        requires place { record_place addr (length self.old.pieces) < 2 ^ 64 }
+        ensures reads { ReadsList pages.now addr count self.old.pieces self.new.pieces result }
+        ensures stage { self.new.stage ≡ self.old.stage }
+    {
+        read_list(pages, addr, count, &mut self.pieces)
     }
 
     /// A transfer has no buffers yet.

@@ -2,13 +2,16 @@
 #![tactic(auto)]
 
 mod answering;
+mod copying;
 mod errnos;
 mod fields;
 mod files;
 mod kinds;
+mod lists;
 mod mapping;
-
+mod paths;
 mod records;
+mod table;
 mod transfers;
 mod world;
 

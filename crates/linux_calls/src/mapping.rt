@@ -6,10 +6,9 @@ ghost use Rattle.guest_pages.specs.Pages.{table_of};
 ghost use Rattle.region_map.specs.Calls.{highest_end};
 ghost use Rattle.linux_calls.specs.Mapping.{asked_perms as asked_perms_spec, discarded, is_file_page, is_hole as is_hole_spec, protected, some_in, unmapped, mprotect_call, munmap_call, brk_call, madvise_call};
 ghost use Rattle.linux_calls.specs.View.{view_of, FitParts};
-ghost use Rattle.linux_calls.specs.Following.{AreZeroed, Does, Kept};
+ghost use Rattle.linux_calls.specs.Following.{AreZeroed, DoesAtOnce, Kept};
 
 use crate::errnos::ENOMEM;
-use crate::kinds::Halt;
 use crate::world::{World, low};
 use guest_files::Errno;
 use guest_pages::Pages;
@@ -30,83 +29,83 @@ fn asked_perms(bits: u64) -> Perms
 }
 
 // Gives so many pages from an address on these permissions.
-fn protect(w: &mut World, start: u64, count: u64, perms: Perms) -> Result<u64, Halt>
+fn protect(w: &mut World, start: u64, count: u64, perms: Perms) -> Result<u64, Errno>
     requires page { start % page_size ≡ 0 }
     requires some { 0 < count }
     requires high { start / page_size + count ≤ highest_end }
     requires set { perms.0 < 8 }
     requires fit { FitParts (view_of w.old) }
     ensures kept { Kept w.old w.new }
-    ensures does { Does (protected perms (start / page_size) count) (view_of w.old) (view_of w.new) result }
+    ensures does { DoesAtOnce (protected perms (start / page_size) count) (view_of w.old) (view_of w.new) result }
 {
     match w.regions.protect(w.pages, start, count, perms) {
         Ok(()) => Ok(0),
-        Err(_) => Err(Halt::Refused(ENOMEM)),
+        Err(_) => Err(ENOMEM),
     }
 }
 
 /// The call mprotect.
 #[tactic(auto, unfolding(crate::specs::Mapping::mprotect_call))]
-pub(crate) fn mprotect(w: &mut World) -> Result<u64, Halt>
+pub(crate) fn mprotect(w: &mut World) -> Result<u64, Errno>
     requires { FitParts (view_of w.old) }
     ensures kept { Kept w.old w.new }
-    ensures does { Does mprotect_call (view_of w.old) (view_of w.new) result }
+    ensures does { DoesAtOnce mprotect_call (view_of w.old) (view_of w.new) result }
 {
     let start = w.rdi();
     let len = w.rsi();
     let perms = asked_perms(w.rdx());
     if start % PAGE_SIZE != 0 {
-        return Err(Halt::Refused(Errno::EINVAL));
+        return Err(Errno::EINVAL);
     }
     if len == 0 {
         return Ok(0);
     }
     let count = pages_up(len);
     if start / PAGE_SIZE + count > HIGHEST_END {
-        return Err(Halt::Refused(ENOMEM));
+        return Err(ENOMEM);
     }
     protect(w, start, count, perms)
 }
 
 // Unmaps so many pages from an address on.
-fn unmap(w: &mut World, start: u64, count: u64) -> Result<u64, Halt>
+fn unmap(w: &mut World, start: u64, count: u64) -> Result<u64, Errno>
     requires page { start % page_size ≡ 0 }
     requires some { 0 < count }
     requires high { start / page_size + count ≤ highest_end }
     requires fit { FitParts (view_of w.old) }
     ensures kept { Kept w.old w.new }
-    ensures does { Does (unmapped (start / page_size) (start / page_size + count)) (view_of w.old) (view_of w.new) result }
+    ensures does { DoesAtOnce (unmapped (start / page_size) (start / page_size + count)) (view_of w.old) (view_of w.new) result }
 {
     match w.regions.unmap(w.pages, start, count) {
         Ok(()) => Ok(0),
-        Err(_) => Err(Halt::Refused(ENOMEM)),
+        Err(_) => Err(ENOMEM),
     }
 }
 
 /// The call munmap.
 #[tactic(auto, unfolding(crate::specs::Mapping::munmap_call))]
-pub(crate) fn munmap(w: &mut World) -> Result<u64, Halt>
+pub(crate) fn munmap(w: &mut World) -> Result<u64, Errno>
     requires { FitParts (view_of w.old) }
     ensures kept { Kept w.old w.new }
-    ensures does { Does munmap_call (view_of w.old) (view_of w.new) result }
+    ensures does { DoesAtOnce munmap_call (view_of w.old) (view_of w.new) result }
 {
     let start = w.rdi();
     let len = w.rsi();
     if start % PAGE_SIZE != 0 || len == 0 {
-        return Err(Halt::Refused(Errno::EINVAL));
+        return Err(Errno::EINVAL);
     }
     let count = pages_up(len);
     if start / PAGE_SIZE + count > HIGHEST_END {
-        return Err(Halt::Refused(Errno::EINVAL));
+        return Err(Errno::EINVAL);
     }
     unmap(w, start, count)
 }
 
 /// The call brk.
-pub(crate) fn brk(w: &mut World) -> Result<u64, Halt>
+pub(crate) fn brk(w: &mut World) -> Result<u64, Errno>
     requires { FitParts (view_of w.old) }
     ensures kept { Kept w.old w.new }
-    ensures does { Does brk_call (view_of w.old) (view_of w.new) result }
+    ensures does { DoesAtOnce brk_call (view_of w.old) (view_of w.new) result }
 {
     let to = w.rdi();
     match w.regions.set_break(w.pages, to) {
@@ -163,15 +162,15 @@ fn zero_pages(pages: &mut Pages, first: u64, count: u64)
 
 // Makes so many anonymous pages from one on zeros.
 #[tactic(auto, unfolding(crate::specs::Mapping::discarded))]
-fn discard(w: &mut World, first: u64, count: u64) -> Result<u64, Halt>
+fn discard(w: &mut World, first: u64, count: u64) -> Result<u64, Errno>
     requires fits { first + count < 2 ^ 64 }
     requires whole { some_in (is_hole_spec w.old.regions.now.regions) first count ≡ false }
     requires fit { FitParts (view_of w.old) }
     ensures kept { Kept w.old w.new }
-    ensures does { Does (discarded first count) (view_of w.old) (view_of w.new) result }
+    ensures does { DoesAtOnce (discarded first count) (view_of w.old) (view_of w.new) result }
 {
     if has_file_page(w.regions, first, count) {
-        return Err(Halt::Refused(Errno::EINVAL));
+        return Err(Errno::EINVAL);
     }
     zero_pages(w.pages, first, count);
     Ok(0)
@@ -179,23 +178,23 @@ fn discard(w: &mut World, first: u64, count: u64) -> Result<u64, Halt>
 
 /// The call madvise.
 #[tactic(auto, unfolding(crate::specs::Mapping::madvise_call))]
-pub(crate) fn madvise(w: &mut World) -> Result<u64, Halt>
+pub(crate) fn madvise(w: &mut World) -> Result<u64, Errno>
     requires { FitParts (view_of w.old) }
     ensures kept { Kept w.old w.new }
-    ensures does { Does madvise_call (view_of w.old) (view_of w.new) result }
+    ensures does { DoesAtOnce madvise_call (view_of w.old) (view_of w.new) result }
 {
     let start = w.rdi();
     let count = pages_up(w.rsi());
     let advice = low(w.rdx());
     if start % PAGE_SIZE != 0 {
-        return Err(Halt::Refused(Errno::EINVAL));
+        return Err(Errno::EINVAL);
     }
     if has_hole(w.regions, start / PAGE_SIZE, count) {
-        return Err(Halt::Refused(ENOMEM));
+        return Err(ENOMEM);
     }
     match advice {
         DONT_NEED => discard(w, start / PAGE_SIZE, count),
         0..=3 | 8 | 14 | 15 | 16 => Ok(0),
-        _ => Err(Halt::Refused(Errno::EINVAL)),
+        _ => Err(Errno::EINVAL),
     }
 }

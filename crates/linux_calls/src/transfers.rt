@@ -12,7 +12,7 @@ ghost use Rattle.guest_transfers.specs.Moves.{ReadsFile, WritesFile};
 ghost use Rattle.guest_transfers.specs.Pieces.{asked, most_asked, single};
 ghost use Rattle.linux_calls.specs.Outside.{streams};
 ghost use Rattle.linux_calls.specs.Rest.{transfer_of};
-ghost use Rattle.linux_calls.specs.Transfers.{draws_rest, err_rest, kind_of as kind_of_spec, left_at, out_rest, reads_rest, refusal_of, takes_rest, transfer_rest, transferred, writes_rest};
+ghost use Rattle.linux_calls.specs.Transfers.{begun, draws_rest, err_rest, kind_of as kind_of_spec, left_at, named_piece, out_rest, reads_rest, refusal_of, takes_rest, transfer_rest, transferred, writes_rest};
 ghost use Rattle.linux_calls.specs.View.{view_of, FitParts, SameParts};
 ghost use Rattle.linux_calls.specs.Following.{Comes, DoesPart, Ends, EndsAt, IsCaused, IsLowStop, Kept, Works, failed_in, faults};
 ghost use Rattle.linux_calls.specs.Waiting.{CanMove, HasOther, IsOne, NeedsIn};
@@ -24,6 +24,9 @@ use guest_files::{Errno, Files};
 use guest_pages::Kind;
 use guest_transfers::{Piece, Stop, allowed_pieces, draw_bytes, put_pieces, read_file, take_pieces, total_len, write_file};
 use host_edge::{HostCall, Sink, Source};
+
+/// The most bytes of a transfer (MAX_RW_COUNT of Linux).
+pub(crate) const MOST_ASKED: u64 = 0x7FFF_F000;
 
 /// Offsets in files lie below this.
 const OFFSET_END: u64 = 1 << 63;
@@ -305,5 +308,33 @@ pub(crate) fn begin<S: Source, O: Sink, E: Sink>(
         move_on(w, transfer, 0, input, out, err)
     } else {
         Err(Halt::Refused(EFAULT))
+    }
+}
+
+/// A transfer to or from so many bytes at an address, or one through a descriptor that isn't open for it.
+pub(crate) fn transfer_call<S: Source, O: Sink, E: Sink>(
+    w: &mut World,
+    transfer: Option<Transfer>,
+    piece: Piece,
+    input: &mut S,
+    out: &mut O,
+    err: &mut E,
+) -> Result<u64, Halt>
+    requires is { transfer_of w.old.gprs.now w.old.files.now 0 ≡ transfer }
+    requires fit { FitParts (view_of w.old) }
+    ensures { Works (begun transfer (named_piece piece.addr piece.len)) w.old w.new
+        (streams (S.left input.old) (O.taken out.old) (E.taken err.old)) (streams (S.left input.new) (O.taken out.new) (E.taken err.new))
+        (faults (S.faults input.old) (O.faults out.old) (E.faults err.old)) (faults (S.faults input.new) (O.faults out.new) (E.faults err.new)) result }
+{
+    match transfer {
+        Some(transfer) => {
+            let len = piece.len.min(MOST_ASKED);
+            w.progress.set(Piece {
+                addr: piece.addr,
+                len,
+            });
+            begin(w, transfer, input, out, err)
+        }
+        None => Err(Halt::Refused(Errno::EBADF)),
     }
 }

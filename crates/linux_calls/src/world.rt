@@ -2,7 +2,7 @@
 ghost use Rattle.std.specs.Prelude.{◌≡◌, ◌%◌, ◌^◌};
 
 use crate::kinds::Progress;
-use gpr_flags::{Gprs, RDI, RDX, RSI};
+use gpr_flags::{Gprs, RAX, RDI, RDX, RSI};
 use guest_files::Files;
 use guest_pages::Pages;
 use region_map::Regions;
@@ -39,7 +39,13 @@ pub(crate) fn low(argument: u64) -> u32
 
 impl World<'_> {
     ghost use Rattle.std.specs.Prelude.{◌≡◌};
-    ghost use Rattle.linux_calls.specs.Call.{rdi as rdi_of, rsi as rsi_of, rdx as rdx_of};
+    ghost use Rattle.linux_calls.specs.Call.{rax as rax_of, rdi as rdi_of, rsi as rsi_of, rdx as rdx_of};
+
+    pub(crate) fn rax(&self) -> u64
+        ensures { result ≡ rax_of self.now.gprs.now }
+    {
+        self.gprs.get(RAX)
+    }
 
     pub(crate) fn rdi(&self) -> u64
         ensures { result ≡ rdi_of self.now.gprs.now }

@@ -14,7 +14,7 @@ returns-in-Err g c = record {
   kept = search rules;
   comes = comes_of_part (transferred c.args.transfer c.args.w.now.progress.now.pieces) (TakesInput (view_of c.args.w.now) → IsSome (g.S.Source.left c.args.input.now)) (view_of c.args.w.now) (view_of c.args.w.now)
       (streams (g.S.Source.left c.args.input.now) (g.O.Sink.taken c.args.out.now) (g.E.Sink.taken c.args.err.now)) (Err (Refused c.in-Err.errno))
-      (transferred_refused c.args.transfer c.args.w.now.progress.now.pieces (view_of c.args.w.now) c.total_len-count.result c.in-Err.errno c.requires.most (rw c.pieces.ensures at c.total_len-count.ensures) (sym c.in-Err.ensures.answer));
+      (transferred_refused c.args.transfer c.args.w.now.progress.now.pieces (view_of c.args.w.now) c.total_len-count.result c.requires.most (rw c.pieces.ensures at c.total_len-count.ensures) c.in-Err.errno (sym c.in-Err.ensures.answer));
   tells = search rules;
   needs = tt;
   cause = refl;
