@@ -76,7 +76,7 @@ writes_low byte pieces from old new fd at Failed cap low writes = writes
 abbrev with_byte : World → (ℕ → ℕ) → World
 with_byte w byte = record w { state = record w.state { memory = record w.state.memory { byte = byte } } }
 
-pieces_on : (content : List ℕ) (at from done to : ℕ) → from ≤ done → done ≤ to
+pub pieces_on : (content : List ℕ) (at from done to : ℕ) → from ≤ done → done ≤ to
     → piece_of content (at + from) (done - from) ++ piece_of content (at + done) (to - done) ≡ piece_of content (at + from) (to - from)
 pieces_on content at from done to after before =
     let place : at + done ≡ at + from + (done - from) = omega arith in

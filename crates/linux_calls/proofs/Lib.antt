@@ -15,3 +15,4 @@ pub mod ListLemmas
 pub mod PathLemmas
 pub mod CallLemmas
 pub mod SettleLemmas
+pub mod CopyLemmas

@@ -7,6 +7,7 @@ use Rattle.machine_state.specs.Memory.{page_size}
 use Rattle.machine_state.specs.Regions.{nature_at}
 use Rattle.machine_state.specs.State.{State}
 use Rattle.machine_state.specs.World.{World, place_at}
+use Rattle.machine_state.specs.declared.kinds.Place.{Place}
 use Rattle.machine_state.specs.declared.kinds.Region.{Region}
 use Rattle.machine_state.specs.declared.permissions.Perms.{Perms}
 use Rattle.guest_files.specs.Checks.{first_failing, does_read, is_stream}
@@ -33,6 +34,11 @@ is_hole regions page = not (is_mapped regions page) || nat_le highest_end page
 -- the permissions that a call asks for: PROT_READ 1, PROT_WRITE 2, PROT_EXEC 4
 abbrev pub asked_perms : ℕ → Perms
 asked_perms bits = record { 0 = bits % 8 }
+
+-- the first of two errors
+abbrev pub refusal_or : Option Errno → Option Errno → Option Errno
+refusal_or None other = other
+refusal_or (Some errno) other = Some errno
 
 -- ---- mprotect: rdi is the first page's address, rsi the length, rdx the permissions
 -- so many pages from one on get these permissions
@@ -161,37 +167,49 @@ free_page regions hint count =
     else last_below (is_free regions given_end count) given_end
 
 -- the first page of the pages that a call maps
-abbrev pub mmap_page : World → Option ℕ
-mmap_page w =
-    let gprs = w.state.gprs in
-    if is_fixed (r10 gprs) then Some (rdi gprs / page_size) else free_page w.regions (rdi gprs) (pages_up (rsi gprs))
+abbrev pub mmap_page : (gprs : List ℕ) → List Region → Option ℕ
+mmap_page gprs regions =
+    if is_fixed (r10 gprs) then Some (rdi gprs / page_size) else free_page regions (rdi gprs) (pages_up (rsi gprs))
 
 -- the descriptor that pages are copied from, and whether it is a file that can be read
 abbrev pub mapped_descriptor : List ℕ → ℕ
 mapped_descriptor gprs = low (r8 gprs)
 
-abbrev pub is_readable_file : World → ℕ → Bool
-is_readable_file w fd = does_read (place_at w.descriptors fd) && not (is_stream (place_at w.descriptors fd))
+abbrev pub is_readable_file : Option Place → Bool
+is_readable_file place = does_read place && not (is_stream place)
 
--- what is checked of the arguments
-unfoldable pub mmap_refusal : World → Option Errno
-mmap_refusal w =
-    let gprs = w.state.gprs in
-    let flags = r10 gprs in
-    let of_file = not (is_anonymous flags) in
-    let from = rdi gprs / page_size in
-    let count = pages_up (rsi gprs) in
+-- what is checked of a file that is mapped
+abbrev pub file_refusal : (flags : ℕ) → Option Place → Option Errno
+file_refusal flags place =
     first_failing (
-    (rsi gprs == 0, einval)
-    ∷ (not (is_page (r9 gprs)), einval)
-    ∷ (not (sharing_of flags == 1) && not (sharing_of flags == 2), einval)
-    ∷ (of_file && is_none (place_at w.descriptors (mapped_descriptor gprs)), ebadf)
-    ∷ (of_file && not (is_readable_file w (mapped_descriptor gprs)), eacces)
-    ∷ (of_file && sharing_of flags == map_shared, enodev)
-    ∷ (is_fixed flags && not (is_page (rdi gprs)), einval)
-    ∷ (is_fixed flags && (nat_lt from lowest_page || nat_lt highest_end (from + count)), enomem)
+    (is_none place, ebadf)
+    ∷ (not (is_readable_file place), eacces)
+    ∷ (sharing_of flags == map_shared, enodev)
     ∷ []
     )
+
+-- what is checked of a fixed place
+abbrev pub place_refusal : (addr count : ℕ) → Option Errno
+place_refusal addr count =
+    first_failing (
+    (not (is_page addr), einval)
+    ∷ (nat_lt (addr / page_size) lowest_page, enomem)
+    ∷ (nat_lt highest_end (addr / page_size + count), enomem)
+    ∷ []
+    )
+
+-- what is checked of the arguments: first the numbers, then the file where pages are of one, then the place where it is fixed
+unfoldable pub mmap_refusal : (gprs : List ℕ) → List (Option Place) → Option Errno
+mmap_refusal gprs places =
+    let flags = r10 gprs in
+    refusal_or (first_failing (
+      (rsi gprs == 0, einval)
+      ∷ (not (is_page (r9 gprs)), einval)
+      ∷ (not (sharing_of flags == 1) && not (sharing_of flags == 2), einval)
+      ∷ []
+    ))
+    (refusal_or (if is_anonymous flags then None else file_refusal flags (place_at places (mapped_descriptor gprs)))
+    (if is_fixed flags then place_refusal (rdi gprs) (pages_up (rsi gprs)) else None))
 
 -- the pages that are mapped: of a file or not
 abbrev pub mmap_change : List ℕ → Change
@@ -208,17 +226,21 @@ unfoldable pub copy_rest : (at done : ℕ) → World → Called
 copy_rest at done w = gives at (with_bytes w (at + done) (mmap_bytes w done))
 
 -- what pages are filled with once they are mapped
-abbrev pub filled_from : (at : ℕ) → World → Called
+unfoldable pub filled_from : (at : ℕ) → World → Called
 filled_from at w = if is_anonymous (r10 w.state.gprs) then gives at w else copy_rest at 0 w
 
--- what is mapped from a page on, if one is found
-abbrev pub mmap_at : Option ℕ → World → Called
-mmap_at None w = refuses enomem w
-mmap_at (Some from) w =
+-- what is mapped from a page on
+unfoldable pub mapped_at : (from : ℕ) → World → Called
+mapped_at from w =
     let gprs = w.state.gprs in
     let to = from + pages_up (rsi gprs) in
     unless (first_failing ((passes_limits w.pages (changed_regions (mmap_change gprs) from to w.regions), enomem) ∷ [])) w
     (filled_from (from * page_size) (with_change (mmap_change gprs) from to w))
 
+-- the same, if a page is found
+abbrev pub mmap_at : Option ℕ → World → Called
+mmap_at None w = refuses enomem w
+mmap_at (Some from) w = mapped_at from w
+
 unfoldable pub mmap_call : World → Called
-mmap_call w = unless (mmap_refusal w) w (mmap_at (mmap_page w) w)
+mmap_call w = unless (mmap_refusal w.state.gprs w.descriptors) w (mmap_at (mmap_page w.state.gprs w.regions) w)

@@ -95,6 +95,7 @@ pub record CanCopy (v : View) (at done : ℕ) : Type 0 where
   pub within : done ≤ mapped_bytes v.gprs
   pub file : ReadsFile v.files (mapped_descriptor v.gprs)
   pub offset : r9 v.gprs < 2 ^ 63
+  pub low : at + mapped_bytes v.gprs ≤ 2 ^ 47
 
 abbrev pub CanGoOnBy : Stage → View → Type 0
 CanGoOnBy Start v = ⊤

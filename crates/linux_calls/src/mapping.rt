@@ -16,14 +16,15 @@ use machine_state::{PAGE_SIZE, Perms};
 use region_map::{Regions, pages_up};
 
 /// The page behind the last one that a guest may choose.
-const HIGHEST_END: u64 = 0x7_FFFF_FFFF;
+pub(crate) const HIGHEST_END: u64 = 0x7_FFFF_FFFF;
 
 /// The advice MADV_DONTNEED.
 const DONT_NEED: u32 = 4;
 
-// The permissions that a call asks for.
-fn asked_perms(bits: u64) -> Perms
-    ensures { result ≡ asked_perms_spec bits }
+/// The permissions that a call asks for.
+pub(crate) fn asked_perms(bits: u64) -> Perms
+    ensures value { result ≡ asked_perms_spec bits }
+    ensures set { result.0 < 8 }
 {
     Perms((bits % 8) as u8)
 }
