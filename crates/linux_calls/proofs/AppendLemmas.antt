@@ -1,5 +1,5 @@
 -- That a transfer is the same one in each of its parts.
-use Rattle.std.proofs.Common.{◌≡◌, ℕ, ◌+◌, ◌-◌, ◌≤◌, ◌<◌, ◌==◌, ◌⊎◌, inl, inr, min, Bool, true, false, cond, not, List, [], ◌∷◌, ◌++◌, length, take, drop, slice_range, slice_index_or, slice_set, replicate, Option, Some, None, IsSome, is_some, is_none, IfSome, unwrap_or, refl, sym, ap, ◌∙◌, subst, arith, length-append, length-take, length-drop, get_or, set}
+use Rattle.std.proofs.Common.{◌≡◌, ℕ, ◌+◌, ◌-◌, ◌≤◌, ◌<◌, ◌==◌, ◌⊎◌, inl, inr, Bool, true, false, cond, not, List, [], ◌∷◌, ◌++◌, length, take, drop, replicate, Option, Some, None, IsSome, is_none, IfSome, unwrap_or, refl, sym, ap, ◌∙◌, subst, arith, length-append, length-take, length-drop}
 use Rattle.std.proofs.lemmas.Bool.{cases_lt}
 use Rattle.std.proofs.lemmas.List.{get_or-set_same, length-replicate, take_all}
 use Rattle.std.specs.Option.{option_map}
@@ -7,11 +7,11 @@ use Rattle.machine_state.specs.World.{GuestFile, IsPlace, no_file, place_at}
 use Rattle.machine_state.specs.declared.kinds.Kind.TheVariants.{Read as ReadKind}
 use Rattle.machine_state.specs.declared.kinds.Place.{Place}
 use Rattle.guest_pages.specs.Table.{Table}
-use Rattle.guest_files.specs.Checks.{does_write, file_number, is_stream}
+use Rattle.guest_files.specs.Checks.{does_write, file_number}
 use Rattle.guest_files.specs.Content.{content_with, count_below}
 use Rattle.guest_files.specs.Files.{FilesValue, AreFiles, file_of, with_file}
 use Rattle.guest_files.specs.Moves.{content_at, size_at, written_at}
-use Rattle.guest_transfers.specs.Pieces.{asked, bytes_between, pieces_bytes}
+use Rattle.guest_transfers.specs.Pieces.{bytes_between, pieces_bytes}
 use Rattle.guest_transfers.specs.Moves.{Writes as WritesTo, Stops, blocked_access}
 use Rattle.guest_transfers.specs.declared.kinds.Piece.{Piece}
 use Rattle.guest_transfers.specs.declared.kinds.Stop.{Stop}
@@ -19,7 +19,7 @@ use Rattle.guest_transfers.specs.declared.kinds.Stop.TheVariants.{Whole, Away, F
 use Rattle.guest_transfers.proofs.Along.{length-pieces_bytes}
 use Rattle.guest_transfers.proofs.FileLemmas.{written_nothing}
 use Rattle.linux_calls.specs.declared.kinds.Call.{Call}
-use Rattle.linux_calls.specs.declared.kinds.Call.TheVariants.{Read, Write, Readv, Writev}
+use Rattle.linux_calls.specs.declared.kinds.Call.TheVariants.{Write, Writev}
 use Rattle.linux_calls.specs.declared.kinds.Transfer.{Transfer}
 use Rattle.linux_calls.specs.declared.kinds.Transfer.TheVariants.{Takes, PutsOut, PutsErr, Reads, Writes, Draws}
 use Rattle.linux_calls.specs.Call.{low, rax, rdi}
@@ -64,6 +64,7 @@ module _ (files : FilesValue) (fd at : ℕ) (bytes : List ℕ) where
     where
       now : Option ℕ → GuestFile
       now o = let old = file_of files.files o in record old { content = content_with old.content at (take (count_below files.cap at (length bytes)) bytes) }
+
       here : (o : Option ℕ) → o ≡ Some number
           → (file_of (with_file files.files o (let old = file_of files.files o in record old { content = content_with old.content at (take (count_below files.cap at (length bytes)) bytes) })) o).content
           ≡ content_with (file_of files.files o).content at (take (count_below files.cap at (length bytes)) bytes)
@@ -84,6 +85,7 @@ module _ (files : FilesValue) (fd at : ℕ) (bytes : List ℕ) where
       content_len number there w =
           ap (λ (xs : List ℕ). length xs) (content_now number there w)
           ∙ rw (below, take_all (length bytes) bytes (omega arith)) (length_at_end (content_at files fd) at bytes behind some)
+
       here : (o : Option ℕ) → place.file ≡ o → IfSome o (λ number. number < length files.files) → is_none o ≡ false
           → unwrap_or (size_at (written_at files fd at bytes) fd) 0 ≡ at + length bytes
       here None e w f = cc
@@ -118,12 +120,14 @@ write_again fd files from fd' at moves bytes are is fits = here (place_at files.
         let nothing : written_at files fd' (at + from) bytes ≡ files = written_nothing files fd' (at + from) bytes (omega (arith, none, fits)) in
         let same : from + length bytes ≡ from = omega (arith, none) in
         rw (nothing, same) e
+
     size_before : (place : Place) → place_at files.places fd ≡ Some place → is_none place.file ≡ false → length (content_at files fd) ≡ unwrap_or (size_at files fd) 0
     size_before place there file = by_file place.file refl file
       where
         by_file : (o : Option ℕ) → place.file ≡ o → is_none o ≡ false → length (content_at files fd) ≡ unwrap_or (size_at files fd) 0
         by_file None e f = cc
         by_file (Some number) e f = let number_is : file_number (place_at files.places fd) ≡ Some number = ap file_number there ∙ e in rw number_is refl
+
     offset_is : (place : Place) → place_at files.places fd ≡ Some place → is_none place.file ≡ false → at ≡ cond place.append (unwrap_or (size_at files fd) 0 - from) place.at → 0 < length bytes
         → cond place.append (unwrap_or (size_at (written_at files fd (at + from) bytes) fd) 0 - (from + length bytes)) place.at ≡ at
     offset_is place there file is_at some = by_append place.append is_at
@@ -136,11 +140,13 @@ write_again fd files from fd' at moves bytes are is fits = here (place_at files.
             let fits_place = subst (λ (o : Option Place). IfSome o (IsPlace (length files.files) fd)) there (are.place fd) in
             let now = size_now files fd (at + from) bytes place there fits_place.file file (omega arith) fits some in
             omega arith
+
     some_more : (place : Place) → place_at files.places fd ≡ Some place → writes_at fd (unwrap_or (size_at files fd) 0) from place ≡ Some (Writes fd' at moves) → 0 < length bytes
         → writes_at fd (unwrap_or (size_at (written_at files fd' (at + from) bytes) fd) 0) (from + length bytes) place ≡ Some (Writes fd' at moves)
     some_more place there e some =
         let is_write = writes_at_is fd (unwrap_or (size_at files fd) 0) from place fd' at moves e in
         rw (is_write.0, is_write.1, is_write.2, is_write.4) (ap (λ (n : ℕ). let t : Option Transfer = Some (Writes fd n true) in t) (offset_is place there is_write.1 is_write.3 some))
+
     here : (o : Option Place) → place_at files.places fd ≡ o → elim o [ None ↦ None | Some place ↦ writes_at fd (unwrap_or (size_at files fd) 0) from place ] ≡ Some (Writes fd' at moves)
         → elim o [ None ↦ None | Some place ↦ writes_at fd (unwrap_or (size_at (written_at files fd' (at + from) bytes) fd) 0) (from + length bytes) place ] ≡ Some (Writes fd' at moves)
     here None there e = cc
@@ -159,6 +165,7 @@ again gprs files from fd at moves bytes are is fits = here (call_numbered (rax g
     by_call Write e = write_again (low (rdi gprs)) files from fd at moves bytes are e fits
     by_call Writev e = write_again (low (rdi gprs)) files from fd at moves bytes are e fits
     by_call other e = e
+
     here : (o : Option Call) → elim o [ None ↦ None | Some call ↦ call_transfer call gprs files from ] ≡ Some (Writes fd at moves)
         → elim o [ None ↦ None | Some call ↦ call_transfer call gprs (written_at files fd (at + from) bytes) (from + length bytes) ] ≡ Some (Writes fd at moves)
     here None e = cc
@@ -216,6 +223,7 @@ steady gprs files from done transfer is_steady e = here (call_numbered (rax gprs
     by_call Write h = steady_through files (low (rdi gprs)) from done transfer is_steady h
     by_call Writev h = steady_through files (low (rdi gprs)) from done transfer is_steady h
     by_call other h = h
+
     here : (o : Option Call) → elim o [ None ↦ None | Some call ↦ call_transfer call gprs files from ] ≡ Some transfer → elim o [ None ↦ None | Some call ↦ call_transfer call gprs files done ] ≡ Some transfer
     here None h = h
     here (Some call) h = by_call call h

@@ -1,5 +1,5 @@
 -- Calls from their beginning.
-use Rattle.std.proofs.Common.{◌≡◌, ℕ, ◌%◌, ◌^◌, Bool, true, false, cond, List, Option, Some, None, Result, Ok, Err, refl, sym, ap, ◌∙◌, subst}
+use Rattle.std.proofs.Common.{◌≡◌, ℕ, ◌%◌, ◌^◌, Bool, true, false, cond, Option, Some, None, Result, Ok, Err, refl, sym, ap, ◌∙◌, subst}
 use Rattle.machine_state.specs.Memory.{Swap}
 use Rattle.machine_state.specs.World.{World as Whole}
 use Rattle.guest_transfers.specs.Moves.{PathWaits}
@@ -10,7 +10,7 @@ use Rattle.linux_calls.specs.declared.kinds.Halt.{Halt}
 use Rattle.linux_calls.specs.declared.kinds.Halt.TheVariants.{Refused, Need, Failed}
 use Rattle.linux_calls.specs.Call.{Called, Exits as ExitsWith, refuses, rax, rdi}
 use Rattle.linux_calls.specs.Table.{act, acted, call_numbered, called, ends_guest, exit_call}
-use Rattle.linux_calls.specs.Rest.{ProgressValue, listing_rest, moving_rest, rest_of, stage_rest, transfer_of}
+use Rattle.linux_calls.specs.Rest.{listing_rest, moving_rest, rest_of, stage_rest, transfer_of}
 use Rattle.linux_calls.specs.Transfers.{list_rest, transfer_rest}
 use Rattle.linux_calls.specs.Mapping.{copy_rest}
 use Rattle.linux_calls.specs.Errnos.{enosys}
@@ -101,6 +101,7 @@ stays_on v call begins is stays = here (ends_guest call) refl
   where
     there : (b : Bool) → ends_guest call ≡ b → exit_of v ≡ cond b (Some (rdi v.gprs % 2 ^ 8)) None
     there b e = rw (begins, is, e) refl
+
     here : (b : Bool) → ends_guest call ≡ b → b ≡ false
     here true e = absurd (never (exit_of v) (rdi v.gprs % 2 ^ 8) stays (there true e))
     here false e = refl
@@ -132,9 +133,11 @@ exits v code e = by_stage (is_start v.progress.stage) refl e
     by_ends : (call : Call) → is_start v.progress.stage ≡ true → call_numbered (rax v.gprs) ≡ Some call → (b : Bool) → ends_guest call ≡ b → cond b (Some (rdi v.gprs % 2 ^ 8)) None ≡ Some code → Exits v code
     by_ends call begins is true ends h = record { begins = starts v.progress.stage begins; call = call; is = is; ends = ends; code_is = cc }
     by_ends call begins is false ends h = absurd (never None code refl h)
+
     by_call : is_start v.progress.stage ≡ true → (o : Option Call) → call_numbered (rax v.gprs) ≡ o → exit_by o v.gprs ≡ Some code → Exits v code
     by_call begins None is h = absurd (never None code refl h)
     by_call begins (Some call) is h = by_ends call begins is (ends_guest call) refl h
+
     by_stage : (b : Bool) → is_start v.progress.stage ≡ b → cond b (exit_by (call_numbered (rax v.gprs)) v.gprs) None ≡ Some code → Exits v code
     by_stage false begins h = absurd (never None code refl h)
     by_stage true begins h = by_call begins (call_numbered (rax v.gprs)) refl h

@@ -1,16 +1,15 @@
 -- The world after a change of a range of pages.
-use Rattle.std.proofs.Common.{◌≡◌, ℕ, ◌+◌, ◌/◌, Bool, true, false, cond, List, length, refl, sym, ap, ◌∙◌}
+use Rattle.std.proofs.Common.{◌≡◌, ℕ, ◌/◌, Bool, true, false, cond, List, length, refl, sym, ap, ◌∙◌}
 use Rattle.machine_state.specs.Memory.{Swap, Memory, page_size}
 use Rattle.machine_state.specs.Regions.{nature_at, perms_of}
 use Rattle.machine_state.specs.World.{World}
 use Rattle.machine_state.specs.declared.kinds.Region.{Region}
 use Rattle.guest_pages.specs.Table.{perms_in}
 use Rattle.guest_pages.specs.Pages.{PagesValue, table_of, byte_of, memory_of}
-use Rattle.guest_pages.specs.Changes.{KeepsSize}
 use Rattle.region_map.specs.declared.kinds.Change.{Change}
 use Rattle.region_map.specs.declared.kinds.Change.TheVariants.{Map, Unmap, Protect}
 use Rattle.region_map.specs.Ranges.{is_in, changed_regions}
-use Rattle.region_map.specs.Changes.{AreChanged, IsChanged, Stays}
+use Rattle.region_map.specs.Changes.{AreChanged}
 use Rattle.region_map.specs.Calls.{RegionsValue, FitPages, IsChange}
 use Rattle.linux_calls.specs.Parts.{bytes_after, with_change}
 use Rattle.linux_calls.specs.View.{View, with_parts}

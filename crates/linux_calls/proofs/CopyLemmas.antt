@@ -1,32 +1,27 @@
 -- Pages that are mapped, and files that are copied to them.
-use Rattle.std.proofs.Common.{◌≡◌, ◌≢◌, ℕ, zero, suc, ◌+◌, ◌-◌, ◌*◌, ◌/◌, ◌%◌, ◌^◌, ◌≤◌, ◌<◌, ◌==◌, ◌⊎◌, inl, inr, min, Bool, true, false, cond, not, ◌&&◌, List, [], ◌∷◌, ◌++◌, length, Option, Some, None, Result, Ok, Err, refl, sym, ap, ◌∙◌, subst, arith, zero-add, add-zero, length-append, nat_le, eq-eqb}
+use Rattle.std.proofs.Common.{◌≡◌, ◌≢◌, ℕ, zero, suc, ◌+◌, ◌-◌, ◌*◌, ◌/◌, ◌%◌, ◌^◌, ◌≤◌, ◌<◌, ◌==◌, ◌⊎◌, inl, inr, min, Bool, true, false, cond, not, ◌&&◌, List, [], ◌∷◌, length, Option, Some, None, Result, Ok, Err, refl, sym, ap, ◌∙◌, subst, arith, zero-add, nat_le, eq-eqb}
 use Rattle.std.proofs.lemmas.Bool.{cases_lt, cases_eq, le-leb, leb-true, ne_eqb}
 use Rattle.std.specs.Option.{option_map}
 use Rattle.machine_state.specs.Memory.{Swap, page_size, written}
 use Rattle.machine_state.specs.World.{World}
-use Rattle.machine_state.specs.declared.kinds.Kind.TheVariants.{Write}
 use Rattle.machine_state.specs.declared.kinds.Region.{Region}
 use Rattle.machine_state.proofs.MemoryLemmas.{written_none}
-use Rattle.guest_pages.specs.Pages.{PagesValue, table_of, memory_of}
+use Rattle.guest_pages.specs.Pages.{PagesValue}
 use Rattle.guest_files.specs.Files.{FilesValue, AreFiles}
 use Rattle.guest_files.specs.Moves.{content_at, read_piece}
 use Rattle.guest_transfers.specs.Pieces.{asked, pieces_from, single, spread}
-use Rattle.guest_transfers.specs.Moves.{Moved, Reads as ReadsTo, Copies}
-use Rattle.guest_transfers.specs.declared.kinds.Piece.{Piece}
-use Rattle.guest_transfers.specs.declared.kinds.Stop.{Stop}
-use Rattle.guest_transfers.specs.declared.kinds.Stop.TheVariants.{Whole, Away, Failed}
-use Rattle.guest_transfers.proofs.Along.{from_all, from_inside, spread_front, spread_none, spread-nil, written-append}
+use Rattle.guest_transfers.specs.Moves.{Moved, Reads as ReadsTo}
+use Rattle.guest_transfers.specs.declared.kinds.Stop.TheVariants.{Whole, Away}
+use Rattle.guest_transfers.proofs.Along.{from_inside, spread_front, spread_none, written-append}
 use Rattle.guest_transfers.proofs.FileLemmas.{none_behind}
-use Rattle.region_map.specs.declared.kinds.Change.{Change}
 use Rattle.region_map.specs.Ranges.{changed_regions}
 use Rattle.region_map.specs.Calls.{RegionsValue, FitPages, IsChange, IsFreeBelow, IsHighest, NoneIn, PassLimits, highest_end, is_mapped, lowest_page, pages_up}
 use Rattle.linux_calls.specs.declared.kinds.Halt.{Halt}
 use Rattle.linux_calls.specs.declared.kinds.Halt.TheVariants.{Need, Refused, Failed as FailedHalt}
 use Rattle.linux_calls.specs.declared.kinds.Stage.TheVariants.{Copying}
 use Rattle.linux_calls.specs.Errnos.{enomem}
-use Rattle.linux_calls.specs.Call.{Called, gives, refuses, with_bytes, is_page, r9, rsi}
-use Rattle.linux_calls.specs.Transfers.{with_spread}
-use Rattle.linux_calls.specs.Mapping.{copy_rest, filled_from, free_page, given_end, is_free, last_below, mapped_at, mapped_descriptor, mmap_bytes, mmap_change, some_in}
+use Rattle.linux_calls.specs.Call.{Called, gives, with_bytes, r9, rsi}
+use Rattle.linux_calls.specs.Mapping.{copy_rest, filled_from, given_end, is_free, last_below, mapped_at, mapped_descriptor, mmap_bytes, mmap_change, some_in}
 use Rattle.linux_calls.specs.Rest.{rest_of}
 use Rattle.linux_calls.specs.View.{View, with_parts}
 use Rattle.linux_calls.specs.Following.{DoesPart}
@@ -186,11 +181,11 @@ highest_is regions count (Some addr) some highest =
     let high : place.page + count ≤ given_end = omega arith in
     ap (λ (n : ℕ). let p : Option ℕ = Some n in p) page_of
     ∙ sym (last_is (is_free regions given_end count) given_end place.page (omega arith) (free_is regions given_end count place.page low high place.free) (λ other above lt.
-        not_true (is_free regions given_end count other) (λ e.
-        let f = free_at regions given_end count other e in
-        let h = f.high in
-        let no_more = highest.1 (other * page_size) (place_is regions given_end count other 0x7FFFF0000000 (omega arith) (omega arith) e) in
-        absurd (omega arith))))
+    not_true (is_free regions given_end count other) (λ e.
+    let f = free_at regions given_end count other e in
+    let h = f.high in
+    let no_more = highest.1 (other * page_size) (place_is regions given_end count other 0x7FFFF0000000 (omega arith) (omega arith) e) in
+    absurd (omega arith))))
 
 pub highest_bounds : (regions : List Region) (count addr : ℕ) → IsFreeBelow regions 0x7FFFF0000000 count addr → (lowest_page ≤ addr / page_size) × (addr / page_size + count ≤ highest_end)
 highest_bounds regions count addr place =

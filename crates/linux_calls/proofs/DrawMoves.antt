@@ -1,6 +1,5 @@
 -- Random bytes, in parts.
-use Rattle.std.proofs.Common.{◌≡◌, ℕ, ◌+◌, ◌-◌, ◌*◌, ◌/◌, ◌%◌, ◌≤◌, ◌<◌, List, [], ◌∷◌, ◌++◌, length, Option, Some, None, Result, Ok, Err, refl, sym, ap, ◌∙◌, subst, arith, zero-add, get_or}
-use Rattle.machine_state.specs.Memory.{Swap}
+use Rattle.std.proofs.Common.{◌≡◌, ℕ, ◌+◌, ◌-◌, ◌*◌, ◌/◌, ◌%◌, ◌≤◌, List, [], ◌∷◌, ◌++◌, length, Some, Result, Ok, Err, sym, ap, ◌∙◌, subst, arith, zero-add, get_or}
 use Rattle.machine_state.specs.World.{World}
 use Rattle.machine_state.specs.declared.kinds.Kind.TheVariants.{Write}
 use Rattle.machine_state.proofs.MemoryLemmas.{length-bytes_at}
@@ -19,7 +18,7 @@ use Rattle.linux_calls.specs.declared.kinds.Halt.{Halt}
 use Rattle.linux_calls.specs.declared.kinds.Halt.TheVariants.{Need}
 use Rattle.linux_calls.specs.declared.kinds.Stage.TheVariants.{Moving}
 use Rattle.linux_calls.specs.declared.kinds.Transfer.TheVariants.{Draws}
-use Rattle.linux_calls.specs.Call.{Called, gives}
+use Rattle.linux_calls.specs.Call.{gives}
 use Rattle.linux_calls.specs.Transfers.{draws_rest, with_spread}
 use Rattle.linux_calls.specs.Rest.{transfer_of}
 use Rattle.linux_calls.specs.View.{View, with_parts}

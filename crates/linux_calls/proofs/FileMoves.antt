@@ -1,6 +1,6 @@
 -- Reads and writes of files, in parts.
-use Rattle.std.proofs.Common.{◌≡◌, ℕ, ◌+◌, ◌-◌, ◌≤◌, ◌<◌, ◌^◌, ◌⊎◌, inl, inr, min, Bool, true, false, cond, List, [], ◌∷◌, ◌++◌, length, take, drop, slice_range, Option, Some, None, IsSome, is_some, Result, Ok, Err, refl, sym, ap, ◌∙◌, subst, arith, zero-add, length-append, length-take, length-drop, ℤ, pos, ◌+ℤ◌}
-use Rattle.std.proofs.lemmas.Bool.{lt-ltb, cases_lt}
+use Rattle.std.proofs.Common.{◌≡◌, ℕ, ◌+◌, ◌-◌, ◌≤◌, ◌<◌, ◌^◌, Bool, true, false, List, ◌++◌, length, drop, Option, Some, None, IsSome, Result, Ok, Err, refl, sym, ap, ◌∙◌, subst, arith, zero-add, length-append, length-take, length-drop, ℤ, pos}
+use Rattle.std.proofs.lemmas.Bool.{lt-ltb}
 use Rattle.std.proofs.lemmas.List.{drop-drop}
 use Rattle.std.proofs.Math.Seq.{take-add}
 use Rattle.machine_state.specs.Memory.{Swap}
@@ -14,7 +14,7 @@ use Rattle.guest_files.specs.Content.{piece_of, count_below}
 use Rattle.guest_files.specs.Files.{FilesValue, AreFiles}
 use Rattle.guest_files.specs.Moves.{content_at, read_piece, written_at, seek_refusal, offset_after, offset_end}
 use Rattle.guest_transfers.specs.Pieces.{asked, pieces_from, spread, bytes_between, pieces_bytes}
-use Rattle.guest_transfers.specs.Moves.{Moved, Reads as ReadsTo, Writes as WritesTo, ReadsFile, WritesFile, Stops, blocked_access}
+use Rattle.guest_transfers.specs.Moves.{Reads as ReadsTo, Writes as WritesTo, WritesFile, Stops, blocked_access}
 use Rattle.guest_transfers.specs.declared.kinds.Piece.{Piece}
 use Rattle.guest_transfers.specs.declared.kinds.Stop.{Stop}
 use Rattle.guest_transfers.specs.declared.kinds.Stop.TheVariants.{Whole, Away, Failed}

@@ -1,25 +1,24 @@
 -- Lists of buffers, in parts.
-use Rattle.std.proofs.Common.{◌≡◌, ℕ, zero, suc, ◌+◌, ◌-◌, ◌*◌, ◌/◌, ◌%◌, ◌≤◌, ◌<◌, ◌^◌, Bool, true, false, not, List, [], ◌∷◌, ◌++◌, length, Option, Some, None, IsSome, is_some, is_none, Result, Err, refl, sym, ap, ◌∙◌, subst, arith, zero-add, add-zero, append_assoc, length-append}
+use Rattle.std.proofs.Common.{◌≡◌, ℕ, zero, suc, ◌+◌, ◌-◌, ◌*◌, ◌≤◌, false, not, List, [], ◌∷◌, ◌++◌, length, Option, Some, None, IsSome, is_none, Err, refl, sym, ap, ◌∙◌, subst, arith, add-zero, append_assoc, length-append}
 use Rattle.machine_state.specs.Memory.{Swap, miss_at, first_miss, or_else}
 use Rattle.machine_state.specs.World.{World}
 use Rattle.machine_state.specs.declared.kinds.Kind.TheVariants.{Read}
 use Rattle.machine_state.specs.declared.kinds.Miss.{Miss}
-use Rattle.machine_state.specs.declared.kinds.Miss.TheVariants.{Away}
 use Rattle.machine_state.proofs.MemoryLemmas.{first_miss_part, first_miss-append, first_miss-suc, or_else_none}
-use Rattle.guest_pages.specs.Table.{Table, perms_in, blocked, first_away}
+use Rattle.guest_pages.specs.Table.{perms_in, blocked, first_away}
 use Rattle.guest_pages.specs.Pages.{PagesValue, table_of, byte_of, memory_of}
 use Rattle.guest_pages.proofs.Walks.{blocked_part}
 use Rattle.guest_files.specs.Checks.{first_failing}
 use Rattle.guest_transfers.specs.Buffers.{buffer_at, buffers_at, most_buffers, record_size}
 use Rattle.guest_transfers.specs.Moves.{AreRead, AreReadable, ListFaults, ListWaits, record_place}
 use Rattle.guest_transfers.specs.declared.kinds.Piece.{Piece}
-use Rattle.linux_calls.specs.declared.kinds.Halt.TheVariants.{Refused, Need}
+use Rattle.linux_calls.specs.declared.kinds.Halt.TheVariants.{Need}
 use Rattle.linux_calls.specs.declared.kinds.Stage.TheVariants.{Listing}
 use Rattle.linux_calls.specs.declared.kinds.Transfer.{Transfer}
 use Rattle.linux_calls.specs.Errnos.{efault}
 use Rattle.linux_calls.specs.Call.{Called, refuses, unless, rsi, rdx}
 use Rattle.linux_calls.specs.Transfers.{joined_transfer, list_rest}
-use Rattle.linux_calls.specs.Rest.{ProgressValue, listing_rest, rest_of, transfer_of}
+use Rattle.linux_calls.specs.Rest.{listing_rest, rest_of, transfer_of}
 use Rattle.linux_calls.specs.View.{View, with_parts}
 use Rattle.linux_calls.specs.Waiting.{IsListed, IsListedBy, IsNeeded}
 use Rattle.linux_calls.specs.Following.{DoesPart}
@@ -67,12 +66,12 @@ module _ (transfer : Transfer) (v : View) (old new : List Piece) where
 
   missed : ListFaults v.pages addr count old → (o : Option Miss) → first_miss (perms_in (table_of v.pages)) Read (record_place addr (length old)) (record_size * (count - length old)) ≡ o → is_none o ≡ false
   missed faults None e = absurd (
-    let within = faults.within in
-    let one = first_miss_part (perms_in (table_of v.pages)) Read (record_place addr (length old)) (record_size * (count - length old)) faults.done 1 (omega arith) e in
-    let here = or_else_none (miss_at (perms_in (table_of v.pages)) Read (record_place addr (length old) + faults.done)) (first_miss (perms_in (table_of v.pages)) Read (record_place addr (length old) + faults.done + 1) 0)
-    (sym (first_miss-suc (perms_in (table_of v.pages)) Read (record_place addr (length old) + faults.done) 0) ∙ one) in
-    let never : IsSome {T = Miss} None = subst (λ (o : Option Miss). IsSome o) here.0 faults.denied in cc
-  )
+      let within = faults.within in
+      let one = first_miss_part (perms_in (table_of v.pages)) Read (record_place addr (length old)) (record_size * (count - length old)) faults.done 1 (omega arith) e in
+      let here = or_else_none (miss_at (perms_in (table_of v.pages)) Read (record_place addr (length old) + faults.done)) (first_miss (perms_in (table_of v.pages)) Read (record_place addr (length old) + faults.done + 1) 0)
+      (sym (first_miss-suc (perms_in (table_of v.pages)) Read (record_place addr (length old) + faults.done) 0) ∙ one) in
+      let never : IsSome {T = Miss} None = subst (λ (o : Option Miss). IsSome o) here.0 faults.denied in cc
+      )
   missed faults (Some miss) e = refl
 
   pub list_fault : ListFaults v.pages addr count old → (swap : Swap) (base : World) → list_rest transfer old (with_parts swap v base) ≡ refuses efault (with_parts swap v base)

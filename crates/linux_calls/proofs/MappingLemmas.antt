@@ -1,13 +1,11 @@
 -- The calls on the pages of memory.
-use Rattle.std.proofs.Common.{◌≡◌, ℕ, ◌+◌, ◌-◌, ◌*◌, ◌/◌, ◌%◌, ◌≤◌, ◌<◌, ◌==◌, Bool, true, false, cond, ◌||◌, ◌&&◌, not, ◌⊎◌, inl, inr, List, length, Option, Some, None, Result, Ok, Err, refl, sym, ap, ◌∙◌, subst, arith, nat_lt, nat_le}
+use Rattle.std.proofs.Common.{◌≡◌, ℕ, ◌+◌, ◌-◌, ◌*◌, ◌/◌, ◌%◌, ◌≤◌, ◌<◌, ◌==◌, true, false, not, ◌⊎◌, inl, inr, length, Ok, Err, refl, sym, ap, ◌∙◌, arith}
 use Rattle.std.proofs.lemmas.Bool.{lt-ltb, le-ltb, cases_lt, ne_eqb}
 use Rattle.machine_state.specs.Memory.{Swap, page_size}
 use Rattle.machine_state.specs.World.{World}
-use Rattle.machine_state.specs.declared.kinds.Region.{Region}
 use Rattle.machine_state.specs.declared.permissions.Perms.{Perms}
 use Rattle.guest_pages.specs.Pages.{PagesValue}
-use Rattle.region_map.specs.declared.kinds.Change.{Change}
-use Rattle.region_map.specs.declared.kinds.Change.TheVariants.{Map, Unmap, Protect}
+use Rattle.region_map.specs.declared.kinds.Change.TheVariants.{Unmap, Protect}
 use Rattle.region_map.specs.declared.kinds.ProtectFault.{ProtectFault}
 use Rattle.region_map.specs.declared.kinds.ProtectFault.TheVariants.{Hole, Full as FullOfParts}
 use Rattle.region_map.specs.declared.kinds.BreakFault.{BreakFault}
@@ -15,9 +13,8 @@ use Rattle.region_map.specs.declared.kinds.BreakFault.TheVariants.{Below, Taken,
 use Rattle.region_map.specs.Ranges.{changed_regions}
 use Rattle.region_map.specs.Calls.{RegionsValue, FitPages, IsChange, NoneIn, IsFirst, PassLimits, IsProtectFault, IsBreakFault, IsResized, HeapPasses, heap_pages, is_mapped, is_taken, highest_end, pages_up}
 use Rattle.linux_calls.specs.Errnos.{enomem}
-use Rattle.linux_calls.specs.Call.{gives, refuses, rdi, rsi}
-use Rattle.linux_calls.specs.Parts.{passes_limits, with_change}
-use Rattle.linux_calls.specs.Mapping.{protected, unmapped, some_in, is_hole, break_stays, resized, resize_passes, mprotect_call, brk_call}
+use Rattle.linux_calls.specs.Call.{gives, rdi, rsi}
+use Rattle.linux_calls.specs.Mapping.{protected, unmapped, some_in, break_stays, resized, resize_passes, mprotect_call, brk_call}
 use Rattle.linux_calls.specs.View.{View, with_parts}
 use Rattle.linux_calls.specs.Following.{DoesAtOnce}
 use Rattle.linux_calls.proofs.RangeLemmas.{scan, none_some, one_some, no_hole, one_hole, high_hole, limits_passed, limits_kept, pages_some}
@@ -111,16 +108,16 @@ module _ (v : View) (to : ℕ) where
       here : ((page : ℕ) × IsFirst (is_taken v.regions.regions) old_end (old_end + (new_end - old_end)) page) ⊎ NoneIn (is_taken v.regions.regions) old_end (old_end + (new_end - old_end))
           → NoneIn (is_taken v.regions.regions) old_end new_end
       here (inl found) = absurd (
-        let f = found.1 in
-        never (Taken (found.0 * page_size)) (
-          above,
-          (
-            found.0,
-            refl,
-            record { above = f.above; below = (let a = f.above in let b = f.below in omega arith); passes = f.passes; before = f.before },
-          ),
-        )
-      )
+          let f = found.1 in
+          never (Taken (found.0 * page_size)) (
+            above,
+            (
+              found.0,
+              refl,
+              record { above = f.above; below = (let a = f.above in let b = f.below in omega arith); passes = f.passes; before = f.before },
+            ),
+          )
+          )
       here (inr none) = λ page low high. none page low (omega arith)
 
   resize_kept : (HeapPasses v.pages old_end new_end v.regions.regions → ⊥) → resize_passes (length v.pages.slots) v.regions.regions old_end new_end ≡ false

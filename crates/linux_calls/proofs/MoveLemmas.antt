@@ -1,27 +1,26 @@
 -- Transfers in parts: what each kind has in common.
-use Rattle.std.proofs.Common.{◌≡◌, ℕ, ◌+◌, ◌-◌, ◌≤◌, ◌<◌, ◌⊎◌, inl, inr, Bool, true, false, List, [], ◌++◌, length, take, drop, Option, Some, None, IsSome, is_some, slice_range, Contains, Result, Ok, Err, refl, sym, ap, ◌∙◌, subst, arith, append-nil}
+use Rattle.std.proofs.Common.{◌≡◌, ℕ, ◌+◌, ◌-◌, ◌≤◌, ◌<◌, ◌⊎◌, inl, inr, true, List, [], ◌++◌, length, take, drop, Option, Some, None, IsSome, is_some, slice_range, Contains, Result, refl, sym, ap, ◌∙◌, subst, arith, append-nil}
 use Rattle.std.proofs.lemmas.List.{take_all, drop_all, drop-drop}
 use Rattle.std.proofs.Math.Seq.{take-append_seam, drop-append_seam, take-add}
-use Rattle.machine_state.specs.Memory.{Swap, Memory, Permissions}
+use Rattle.machine_state.specs.Memory.{Swap, Memory}
 use Rattle.machine_state.specs.World.{World}
 use Rattle.machine_state.specs.declared.kinds.Miss.TheVariants.{Away}
 use Rattle.host_edge.specs.Streams.{told}
 use Rattle.host_edge.specs.declared.outside.HostCall.{HostCall}
 use Rattle.guest_pages.specs.Table.{Table, perms_in}
-use Rattle.guest_pages.specs.Pages.{PagesValue, table_of, byte_of, memory_of}
-use Rattle.guest_pages.specs.Changes.{AllResident, KeepsTable}
+use Rattle.guest_pages.specs.Pages.{PagesValue, table_of, memory_of}
+use Rattle.guest_pages.specs.Changes.{KeepsTable}
 use Rattle.guest_files.specs.Files.{FilesValue}
 use Rattle.region_map.proofs.Fits.{fit_kept}
 use Rattle.guest_transfers.specs.Pieces.{asked, pieces_from, spread, part_at, are_allowed}
 use Rattle.guest_transfers.specs.Moves.{Moved, blocked_access}
 use Rattle.guest_transfers.specs.declared.kinds.Piece.{Piece}
 use Rattle.linux_calls.specs.declared.kinds.Halt.{Halt}
-use Rattle.linux_calls.specs.declared.kinds.Halt.TheVariants.{Need}
 use Rattle.linux_calls.specs.declared.kinds.Stage.TheVariants.{Moving}
 use Rattle.linux_calls.specs.declared.kinds.Transfer.{Transfer}
 use Rattle.linux_calls.specs.Call.{Called}
 use Rattle.linux_calls.specs.Transfers.{kind_of, with_spread}
-use Rattle.linux_calls.specs.Rest.{ProgressValue, rest_of, transfer_of, moving_rest, outside_calls, calls_in_call}
+use Rattle.linux_calls.specs.Rest.{rest_of, transfer_of, moving_rest, outside_calls, calls_in_call}
 use Rattle.linux_calls.specs.View.{View, FitParts, KeepsPages, with_parts}
 use Rattle.linux_calls.specs.Outside.{Streams, IsTold, Extends, EndsIn}
 use Rattle.linux_calls.specs.Following.{Comes}

@@ -1,10 +1,9 @@
 -- Paths that are opened.
-use Rattle.std.proofs.Common.{◌≡◌, ℕ, List, refl}
+use Rattle.std.proofs.Common.{◌≡◌, ℕ, refl}
 use Rattle.machine_state.specs.Memory.{Swap}
 use Rattle.machine_state.specs.World.{World}
 use Rattle.guest_pages.specs.Pages.{memory_of}
-use Rattle.guest_transfers.specs.Paths.{Path, Text, TooLong, Fault, path_at}
-use Rattle.linux_calls.specs.Call.{Called}
+use Rattle.guest_transfers.specs.Paths.{Path, path_at}
 use Rattle.linux_calls.specs.FileCalls.{open_path, open_path_at}
 use Rattle.linux_calls.specs.View.{View, with_parts}
 

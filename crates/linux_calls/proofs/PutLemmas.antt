@@ -1,13 +1,10 @@
 -- A write to a stream, in parts.
-use Rattle.std.proofs.Common.{◌≡◌, ℕ, ◌+◌, ◌-◌, ◌≤◌, ◌<◌, List, [], ◌∷◌, ◌++◌, length, take, drop, slice_range, Option, Some, None, IsSome, is_some, Result, Ok, Err, refl, sym, ap, ◌∙◌, arith, append_assoc}
+use Rattle.std.proofs.Common.{◌≡◌, ℕ, ◌≤◌, List, ◌++◌, Option, Some, is_some, Result, Ok, Err, refl, sym, ap, ◌∙◌, arith, append_assoc}
 use Rattle.machine_state.specs.Memory.{Swap}
-use Rattle.machine_state.specs.World.{World}
-use Rattle.host_edge.specs.Streams.{told}
 use Rattle.host_edge.specs.declared.outside.HostCall.TheVariants.{PutOut, PutErr}
-use Rattle.guest_pages.specs.Table.{perms_in}
-use Rattle.guest_pages.specs.Pages.{PagesValue, table_of, byte_of, memory_of}
+use Rattle.guest_pages.specs.Pages.{table_of, byte_of, memory_of}
 use Rattle.guest_transfers.specs.Pieces.{asked, bytes_between, pieces_bytes}
-use Rattle.guest_transfers.specs.Moves.{Puts, IsPut, Stops, blocked_access}
+use Rattle.guest_transfers.specs.Moves.{Puts, Stops, blocked_access}
 use Rattle.guest_transfers.specs.declared.kinds.Piece.{Piece}
 use Rattle.guest_transfers.specs.declared.kinds.Stop.{Stop}
 use Rattle.guest_transfers.specs.declared.kinds.Stop.TheVariants.{Whole, Away, Failed}
@@ -16,11 +13,11 @@ use Rattle.linux_calls.specs.declared.kinds.Halt.{Halt}
 use Rattle.linux_calls.specs.declared.kinds.Halt.TheVariants.{Need, Failed as FailedHalt}
 use Rattle.linux_calls.specs.declared.kinds.Stage.TheVariants.{Moving}
 use Rattle.linux_calls.specs.declared.kinds.Transfer.TheVariants.{PutsOut, PutsErr}
-use Rattle.linux_calls.specs.Call.{Called, gives}
+use Rattle.linux_calls.specs.Call.{gives}
 use Rattle.linux_calls.specs.Transfers.{out_rest, err_rest}
 use Rattle.linux_calls.specs.Rest.{transfer_of}
 use Rattle.linux_calls.specs.View.{View, with_parts}
-use Rattle.linux_calls.specs.Outside.{Standing, Streams, AreTold, Grown, Between, standing_in, with_standing}
+use Rattle.linux_calls.specs.Outside.{Standing, Streams, with_standing}
 use Rattle.linux_calls.specs.Following.{Comes, Ends}
 use Rattle.linux_calls.proofs.MoveLemmas.{at_end, put_told, extends_none, ends_none, rest_moving, calls_made, between_on}
 
@@ -55,7 +52,7 @@ module _ (v : View) (from : ℕ) (s : Streams) (put : Option (List ℕ)) (within
         record { left = is_told.left; out = put_told s.out put base.out more tells (puts swap) is_told.out; err = is_told.err },
         (
           rest_moving done v.progress.pieces (with_parts swap v (with_standing base on)) PutsOut (is done)
-          ∙ (ap (λ (out : List ℕ). let w = with_parts swap v base in gives (asked v.progress.pieces) (record w { out = out }))
+              ∙ (ap (λ (out : List ℕ). let w = with_parts swap v base in gives (asked v.progress.pieces) (record w { out = out }))
               (joined (byte_of v.pages swap) v.progress.pieces from done (asked v.progress.pieces) base.out stops.0 (omega arith))),
           record { out = (more, refl); err = extends_none base.err; left = ends_none base.left },
         ),
@@ -67,14 +64,17 @@ module _ (v : View) (from : ℕ) (s : Streams) (put : Option (List ℕ)) (within
       let rest = bytes_between (byte_of v.pages swap) v.progress.pieces here.0 (asked v.progress.pieces) in (
         record { left = base.left; out = base.out ++ more; err = base.err },
         record { left = is_told.left; out = put_told s.out put base.out more tells here.3 is_told.out; err = is_told.err },
-        (calls_made (with_parts swap v base) PutsOut PutOut (is 0) (0, omega arith, refl), record {
-          has = record { out = (more, refl); err = extends_none base.err; left = ends_none base.left };
-          within = record {
-            out = (rest, (sym (joined (byte_of v.pages swap) v.progress.pieces from here.0 (asked v.progress.pieces) base.out here.1 here.2)));
-            err = extends_none base.err;
-            left = ends_none base.left;
-          };
-        }),
+        (
+          calls_made (with_parts swap v base) PutsOut PutOut (is 0) (0, omega arith, refl),
+          record {
+            has = record { out = (more, refl); err = extends_none base.err; left = ends_none base.left };
+            within = record {
+              out = (rest, (sym (joined (byte_of v.pages swap) v.progress.pieces from here.0 (asked v.progress.pieces) base.out here.1 here.2)));
+              err = extends_none base.err;
+              left = ends_none base.left;
+            };
+          },
+        ),
       ))
 
   pub err_comes : (stop : Stop) (new : View) (result : Result ℕ Halt) → ((done : ℕ) → transfer_of v.gprs v.files done ≡ Some PutsErr) → is_some put ≡ is_some s.err
@@ -98,7 +98,7 @@ module _ (v : View) (from : ℕ) (s : Streams) (put : Option (List ℕ)) (within
         record { left = is_told.left; out = is_told.out; err = put_told s.err put base.err more tells (puts swap) is_told.err },
         (
           rest_moving done v.progress.pieces (with_parts swap v (with_standing base on)) PutsErr (is done)
-          ∙ (ap (λ (err : List ℕ). let w = with_parts swap v base in gives (asked v.progress.pieces) (record w { err = err }))
+              ∙ (ap (λ (err : List ℕ). let w = with_parts swap v base in gives (asked v.progress.pieces) (record w { err = err }))
               (joined (byte_of v.pages swap) v.progress.pieces from done (asked v.progress.pieces) base.err stops.0 (omega arith))),
           record { err = (more, refl); out = extends_none base.out; left = ends_none base.left },
         ),
@@ -110,12 +110,15 @@ module _ (v : View) (from : ℕ) (s : Streams) (put : Option (List ℕ)) (within
       let rest = bytes_between (byte_of v.pages swap) v.progress.pieces here.0 (asked v.progress.pieces) in (
         record { left = base.left; out = base.out; err = base.err ++ more },
         record { left = is_told.left; out = is_told.out; err = put_told s.err put base.err more tells here.3 is_told.err },
-        (calls_made (with_parts swap v base) PutsErr PutErr (is 0) (0, omega arith, refl), record {
-          has = record { err = (more, refl); out = extends_none base.out; left = ends_none base.left };
-          within = record {
-            err = (rest, (sym (joined (byte_of v.pages swap) v.progress.pieces from here.0 (asked v.progress.pieces) base.err here.1 here.2)));
-            out = extends_none base.out;
-            left = ends_none base.left;
-          };
-        }),
+        (
+          calls_made (with_parts swap v base) PutsErr PutErr (is 0) (0, omega arith, refl),
+          record {
+            has = record { err = (more, refl); out = extends_none base.out; left = ends_none base.left };
+            within = record {
+              err = (rest, (sym (joined (byte_of v.pages swap) v.progress.pieces from here.0 (asked v.progress.pieces) base.err here.1 here.2)));
+              out = extends_none base.out;
+              left = ends_none base.left;
+            };
+          },
+        ),
       ))

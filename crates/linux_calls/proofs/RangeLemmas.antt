@@ -1,5 +1,5 @@
 -- Tests of the pages of a range.
-use Rattle.std.proofs.Common.{◌≡◌, ℕ, zero, suc, ◌+◌, ◌-◌, ◌*◌, ◌/◌, ◌%◌, ◌≤◌, ◌<◌, Bool, true, false, cond, ◌||◌, not, ◌⊎◌, inl, inr, List, length, refl, sym, ap, ◌∙◌, subst, arith, zero-add, add-zero, nat_lt, nat_le}
+use Rattle.std.proofs.Common.{◌≡◌, ℕ, zero, suc, ◌+◌, ◌≤◌, ◌<◌, Bool, true, false, ◌||◌, not, ◌⊎◌, inl, inr, List, length, refl, arith, nat_le}
 use Rattle.std.proofs.lemmas.Bool.{lt-ltb, le-ltb, cases_lt}
 use Rattle.std.proofs.lemmas.Bool.Decides.{nat_tests}
 use Rattle.machine_state.specs.declared.kinds.Region.{Region}
@@ -25,6 +25,7 @@ one_some test from (suc count) page low high is =
     or_true : (b : Bool) → (b || true) ≡ true
     or_true true = refl
     or_true false = refl
+
     here : (b : Bool) → test from ≡ b → (from < page) ⊎ (page ≤ from) → (from < page → some_in test (from + 1) count ≡ true)
         → (b || some_in test (from + 1) count) ≡ true
     here true e where_is rest = refl
@@ -40,18 +41,21 @@ scan test from (suc count) = here (test from) refl (scan test (from + 1) count)
   where
     Found : Type 0
     Found = ((page : ℕ) × IsFirst test from (from + suc count) page) ⊎ NoneIn test from (from + suc count)
+
     none_here : test from ≡ false → NoneIn test (from + 1) (from + 1 + count) → NoneIn test from (from + suc count)
     none_here e none page low high = either (cases_lt from page)
       where
         either : (from < page) ⊎ (page ≤ from) → test page ≡ false
         either (inl later) = none page (omega arith) (omega arith)
         either (inr first) = let same : page ≡ from = omega arith in rw same e
+
     before : (page : ℕ) → test from ≡ false → NoneIn test (from + 1) page → NoneIn test from page
     before page e none other low high = either (cases_lt from other)
       where
         either : (from < other) ⊎ (other ≤ from) → test other ≡ false
         either (inl later) = none other (omega arith) high
         either (inr first) = let same : other ≡ from = omega arith in rw same e
+
     here : (b : Bool) → test from ≡ b → ((page : ℕ) × IsFirst test (from + 1) (from + 1 + count) page) ⊎ NoneIn test (from + 1) (from + 1 + count)
         → ((page : ℕ) × IsFirst test from (from + suc count) page) ⊎ NoneIn test from (from + suc count)
     here true e rest = inl (from, record { above = omega arith; below = omega arith; passes = e; before = λ page low high. absurd (omega arith) })

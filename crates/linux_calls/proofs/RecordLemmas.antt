@@ -1,21 +1,19 @@
 -- Records that calls write.
-use Rattle.std.proofs.Common.{◌≡◌, ℕ, List, length, Option, Some, None, Result, Ok, Err, refl, sym, subst}
+use Rattle.std.proofs.Common.{◌≡◌, ℕ, List, length, Option, Some, None, Ok, Err, refl, sym, subst}
 use Rattle.machine_state.specs.declared.kinds.Kind.TheVariants.{Write}
 use Rattle.machine_state.specs.declared.kinds.Miss.{Miss}
 use Rattle.machine_state.specs.declared.kinds.Miss.TheVariants.{Unmapped, Denied, NonCanonical, Away}
-use Rattle.machine_state.specs.Memory.{Swap, Memory, first_miss, written, or_else}
-use Rattle.machine_state.specs.World.{World}
+use Rattle.machine_state.specs.Memory.{Swap, first_miss, written, or_else}
 use Rattle.machine_state.proofs.MemoryLemmas.{or_else_none}
-use Rattle.guest_pages.specs.Table.{Table, perms_in, blocked, first_away, answer_of}
-use Rattle.guest_pages.specs.Pages.{PagesValue, table_of, byte_of, memory_of}
+use Rattle.guest_pages.specs.Table.{perms_in, blocked, first_away, answer_of}
+use Rattle.guest_pages.specs.Pages.{PagesValue, table_of, memory_of}
 use Rattle.guest_pages.specs.Changes.{IsWritten}
 use Rattle.guest_pages.proofs.Walks.{first_away-away}
 use Rattle.linux_calls.specs.declared.kinds.Halt.{Halt}
-use Rattle.linux_calls.specs.declared.kinds.Halt.TheVariants.{Refused, Need}
-use Rattle.linux_calls.specs.Call.{gives, refuses}
+use Rattle.linux_calls.specs.declared.kinds.Halt.TheVariants.{Refused}
 use Rattle.linux_calls.specs.Errnos.{efault}
 use Rattle.linux_calls.specs.Records.{put_record}
-use Rattle.linux_calls.specs.View.{View, with_parts}
+use Rattle.linux_calls.specs.View.{View}
 use Rattle.linux_calls.specs.Following.{Does, halt_of}
 use Rattle.linux_calls.specs.Waiting.{NeedsRecordIn}
 

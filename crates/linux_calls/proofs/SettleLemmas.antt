@@ -1,5 +1,5 @@
 -- How a piece of a call becomes its end.
-use Rattle.std.proofs.Common.{◌≡◌, ℕ, List, Contains, IsSome, Option, Result, Ok, Err, ℤ, refl, sym, ap, ◌∙◌, subst}
+use Rattle.std.proofs.Common.{◌≡◌, ℕ, Contains, IsSome, Result, Ok, Err, ℤ, refl, sym, ap, ◌∙◌, subst}
 use Rattle.std.specs.Int.{w64, cast_unsigned}
 use Rattle.machine_state.specs.Memory.{Swap}
 use Rattle.machine_state.specs.World.{World as Whole}
@@ -8,13 +8,11 @@ use Rattle.linux_calls.specs.declared.kinds.CallEnd.{CallEnd}
 use Rattle.linux_calls.specs.declared.kinds.CallEnd.TheVariants.{Value, Exit, Need as NeedEnd, Host}
 use Rattle.linux_calls.specs.declared.kinds.Halt.{Halt}
 use Rattle.linux_calls.specs.declared.kinds.Halt.TheVariants.{Refused, Need, Failed}
-use Rattle.linux_calls.specs.declared.kinds.Stage.TheVariants.{Start}
 use Rattle.linux_calls.specs.Call.{Called, Gives, answered, gives, negative}
-use Rattle.linux_calls.specs.Rest.{ProgressValue, calls_in_call, rest_of}
+use Rattle.linux_calls.specs.Rest.{calls_in_call, rest_of}
 use Rattle.linux_calls.specs.View.{View, KeepsPages, StandsFor, with_parts}
-use Rattle.linux_calls.specs.Outside.{Standing, Streams, AreTold, Between, Grown, standing_in, with_standing}
-use Rattle.linux_calls.specs.Waiting.{IsNeeded, NeedsAt, NeedsIn}
-use Rattle.linux_calls.specs.Following.{Comes, FollowsAt, Follows, IsValue, Settles, TakesInput, answered_view}
+use Rattle.linux_calls.specs.Outside.{Standing, Streams, AreTold, Between, standing_in, with_standing}
+use Rattle.linux_calls.specs.Following.{Comes, FollowsAt, IsValue, Settles, TakesInput, answered_view}
 
 module _ (old mid : View) (s s' : Streams) where
   abbrev Came : Result ℕ Halt → Type 0

@@ -1,5 +1,5 @@
 -- How transfers begin.
-use Rattle.std.proofs.Common.{◌≡◌, ℕ, ◌^◌, ◌-◌, ◌≤◌, Bool, true, false, min, List, [], ◌∷◌, Option, Some, None, Result, Err, refl, sym, ap, ◌∙◌, subst, arith}
+use Rattle.std.proofs.Common.{◌≡◌, ℕ, ◌^◌, ◌-◌, ◌≤◌, true, false, min, List, [], ◌∷◌, Option, Some, None, Err, refl, sym, ap, ◌∙◌, arith}
 use Rattle.machine_state.specs.Memory.{Swap}
 use Rattle.machine_state.specs.World.{World}
 use Rattle.guest_pages.specs.Table.{perms_in}
@@ -11,7 +11,6 @@ use Rattle.guest_transfers.specs.declared.kinds.Piece.{Piece}
 use Rattle.linux_calls.specs.declared.kinds.Halt.TheVariants.{Refused}
 use Rattle.linux_calls.specs.declared.kinds.Transfer.{Transfer}
 use Rattle.linux_calls.specs.Errnos.{efault}
-use Rattle.linux_calls.specs.Call.{unless}
 use Rattle.linux_calls.specs.Transfers.{begun, kind_of, named_piece, refusal_of, transfer_rest, transferred}
 use Rattle.linux_calls.specs.declared.kinds.Call.{Call}
 use Rattle.linux_calls.specs.Call.{rax}

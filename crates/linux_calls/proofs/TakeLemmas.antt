@@ -1,14 +1,12 @@
 -- A read from the input, in parts.
-use Rattle.std.proofs.Common.{◌≡◌, ℕ, ◌+◌, ◌-◌, ◌≤◌, ◌<◌, ◌⊎◌, inl, inr, List, [], ◌∷◌, ◌++◌, length, take, drop, Option, Some, None, IsSome, is_some, Result, Ok, Err, refl, sym, ap, ◌∙◌, subst, arith, append_assoc, length-append, take-append-drop}
+use Rattle.std.proofs.Common.{◌≡◌, ℕ, ◌+◌, ◌-◌, ◌≤◌, ◌⊎◌, inl, inr, List, [], ◌++◌, length, take, drop, Option, Some, IsSome, Result, Ok, Err, refl, sym, ap, ◌∙◌, arith, length-append, take-append-drop}
 use Rattle.std.proofs.Math.Seq.{take-append-add, drop-append-add}
-use Rattle.machine_state.specs.Memory.{Swap}
 use Rattle.machine_state.specs.World.{World}
 use Rattle.host_edge.specs.Streams.{told}
 use Rattle.host_edge.specs.declared.outside.HostCall.TheVariants.{Take}
-use Rattle.guest_pages.specs.Table.{perms_in}
 use Rattle.guest_pages.specs.Pages.{PagesValue, table_of}
-use Rattle.guest_transfers.specs.Pieces.{asked, pieces_from, spread}
-use Rattle.guest_transfers.specs.Moves.{Moved, Took, Takes as TakesTo, Stops, blocked_access}
+use Rattle.guest_transfers.specs.Pieces.{asked, pieces_from}
+use Rattle.guest_transfers.specs.Moves.{Takes as TakesTo, Stops, blocked_access}
 use Rattle.guest_transfers.specs.declared.kinds.Piece.{Piece}
 use Rattle.guest_transfers.specs.declared.kinds.Stop.{Stop}
 use Rattle.guest_transfers.specs.declared.kinds.Stop.TheVariants.{Whole, Away, Failed}
@@ -18,14 +16,13 @@ use Rattle.linux_calls.specs.declared.kinds.Halt.{Halt}
 use Rattle.linux_calls.specs.declared.kinds.Halt.TheVariants.{Need, Failed as FailedHalt}
 use Rattle.linux_calls.specs.declared.kinds.Stage.TheVariants.{Moving}
 use Rattle.linux_calls.specs.declared.kinds.Transfer.TheVariants.{Takes}
-use Rattle.linux_calls.specs.Call.{Called, gives}
+use Rattle.linux_calls.specs.Call.{gives}
 use Rattle.linux_calls.specs.Transfers.{takes_rest, with_spread}
-use Rattle.linux_calls.specs.Rest.{rest_of, transfer_of, calls_in_call, outside_calls, moving_rest}
+use Rattle.linux_calls.specs.Rest.{transfer_of}
 use Rattle.linux_calls.specs.View.{View, with_parts}
-use Rattle.linux_calls.specs.Outside.{Standing, Streams, AreTold, Grown, Between, standing_in, with_standing}
+use Rattle.linux_calls.specs.Outside.{Standing, Streams, Grown, standing_in, with_standing}
 use Rattle.linux_calls.specs.Following.{Comes, Ends}
-use Rattle.linux_calls.specs.Waiting.{CanMove, NeedsIn}
-use Rattle.linux_calls.proofs.MoveLemmas.{at_end, needs_at_end, told_is, tells_itself, extends_none, ends_none, world_moved, moving_needs, rest_moving, calls_made, taken_whole, dropped_whole}
+use Rattle.linux_calls.proofs.MoveLemmas.{at_end, told_is, tells_itself, extends_none, world_moved, rest_moving, calls_made, taken_whole, dropped_whole}
 
 takes_whole : (pieces : List Piece) (from done : ℕ) (w : World) (bytes rest : List ℕ) → from + length bytes ≡ done → done ≤ asked pieces
     → (done ≡ asked pieces) ⊎ (rest ≡ []) → w.left ≡ bytes ++ rest
@@ -85,7 +82,7 @@ module _ (v : View) (from : ℕ) (pages : PagesValue) (s : Streams) (left : Opti
         record { left = told left; out = base.out; err = base.err },
         record { left = tells_itself left; out = is_told.out; err = is_told.err },
         takes_whole v.progress.pieces from done (with_parts swap v base) took.bytes (told left) took.count stops.1 (takes.1 some) here
-        ∙ ap (λ (w : World). gives done (record w { left = told left })) (world_moved v pages swap base v.progress.pieces from took.bytes took.moved),
+            ∙ ap (λ (w : World). gives done (record w { left = told left })) (world_moved v pages swap base v.progress.pieces from took.bytes took.moved),
       ))
   takes_come (Away done slot) new result is takes stops ends = at_end (takes_rest v.progress.pieces from) (IsSome s.left) v new (record mid { progress = record { stage = Moving done; pieces = v.progress.pieces } }) s after result (Err (Need slot)) ends.0 ends.1 (λ swap base is_told some.
       let here : base.left ≡ takes.bytes ++ told left = told_is s.left base.left is_told.left some ∙ takes.taken some in
@@ -95,8 +92,8 @@ module _ (v : View) (from : ℕ) (pages : PagesValue) (s : Streams) (left : Opti
         record { left = tells_itself left; out = is_told.out; err = is_told.err },
         (
           rest_moving done v.progress.pieces (with_parts swap mid (with_standing base on)) Takes (is done)
-          ∙ ap (λ (w : World). takes_rest v.progress.pieces done (record w { left = told left })) (sym (world_moved v pages swap base v.progress.pieces from takes.bytes takes.moved))
-          ∙ takes_more v.progress.pieces from done (with_parts swap v base) takes.bytes (told left) takes.count (omega arith) here,
+              ∙ ap (λ (w : World). takes_rest v.progress.pieces done (record w { left = told left })) (sym (world_moved v pages swap base v.progress.pieces from takes.bytes takes.moved))
+              ∙ takes_more v.progress.pieces from done (with_parts swap v base) takes.bytes (told left) takes.count (omega arith) here,
           record { out = extends_none base.out; err = extends_none base.err; left = (takes.bytes, here) },
         ),
       ))
@@ -106,8 +103,11 @@ module _ (v : View) (from : ℕ) (pages : PagesValue) (s : Streams) (left : Opti
       let on : Standing = record { left = told left; out = base.out; err = base.err } in (
         on,
         record { left = tells_itself left; out = is_told.out; err = is_told.err },
-        (calls_made (with_parts swap v base) Takes Take (is 0) (0, omega arith, refl), record {
-          has = record { out = extends_none base.out; err = extends_none base.err; left = (took.bytes, here) };
-          within = within_takes v.progress.pieces from (with_parts swap v base) took.bytes (told left) here took.moved.within;
-        }),
+        (
+          calls_made (with_parts swap v base) Takes Take (is 0) (0, omega arith, refl),
+          record {
+            has = record { out = extends_none base.out; err = extends_none base.err; left = (took.bytes, here) };
+            within = within_takes v.progress.pieces from (with_parts swap v base) took.bytes (told left) here took.moved.within;
+          },
+        ),
       ))

@@ -1,17 +1,16 @@
 -- Pieces of calls, put together.
-use Rattle.std.proofs.Common.{◌≡◌, ℕ, ◌≤◌, List, Option, Some, None, IsSome, is_some, Result, Ok, Err, refl, sym, ap, ◌∙◌, subst}
+use Rattle.std.proofs.Common.{◌≡◌, ℕ, IsSome, Result, Ok, Err, refl, sym, ◌∙◌, subst}
 use Rattle.machine_state.specs.Memory.{Swap}
 use Rattle.machine_state.specs.World.{World as Whole}
-use Rattle.guest_files.specs.declared.errno.Errno.{Errno}
 use Rattle.linux_calls.specs.declared.world.World.{World}
 use Rattle.linux_calls.specs.declared.kinds.Halt.{Halt}
 use Rattle.linux_calls.specs.declared.kinds.Halt.TheVariants.{Refused, Need, Failed}
-use Rattle.linux_calls.specs.Call.{Called, gives, refuses}
+use Rattle.linux_calls.specs.Call.{Called}
 use Rattle.linux_calls.specs.Rest.{ProgressValue}
-use Rattle.linux_calls.specs.View.{View, view_of, SameParts, KeepsPages, FitParts, with_parts}
-use Rattle.linux_calls.specs.Outside.{Standing, Streams, AreTold, Grown, standing_in, with_standing}
+use Rattle.linux_calls.specs.View.{View, view_of, SameParts, KeepsPages, with_parts}
+use Rattle.linux_calls.specs.Outside.{Streams, standing_in, with_standing}
 use Rattle.linux_calls.specs.Waiting.{NeedsIn}
-use Rattle.linux_calls.specs.Following.{Comes, Does, ComesTo, DoesPart, Faults, IsCaused, Kept, StillTell, TakesInput, Works, failed_in}
+use Rattle.linux_calls.specs.Following.{Comes, ComesTo, DoesPart, Faults, IsCaused, Kept, TakesInput, Works, failed_in}
 use Rattle.linux_calls.proofs.MoveLemmas.{extends_none, ends_none}
 
 -- a piece that touches no stream
@@ -19,10 +18,10 @@ pub comes_of_part : (work : Whole → Called) (Premise : Type 0) (old new : View
 comes_of_part work Premise old new s (Ok value) does = λ swap base told premise. (standing_in base, told, does swap base)
 comes_of_part work Premise old new s (Err (Refused errno)) does = λ swap base told premise. (standing_in base, told, does swap base)
 comes_of_part work Premise old new s (Err (Need slot)) does = λ swap base told premise. (
-      standing_in base,
-      told,
-      (does swap base, record { out = extends_none base.out; err = extends_none base.err; left = ends_none base.left }),
-    )
+  standing_in base,
+  told,
+  (does swap base, record { out = extends_none base.out; err = extends_none base.err; left = ends_none base.left }),
+)
 comes_of_part work Premise old new s (Err (Failed call)) does = absurd does
 
 no_cause : (work : Whole → Called) (old new : View) (result : Result ℕ Halt) (f : Faults) → DoesPart work old new result → IsCaused (failed_in result) f f

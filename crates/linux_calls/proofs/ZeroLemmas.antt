@@ -1,21 +1,21 @@
 -- Pages that become zeros.
-use Rattle.std.proofs.Common.{◌≡◌, ◌≢◌, ℕ, ◌+◌, ◌-◌, ◌*◌, ◌/◌, ◌%◌, ◌≤◌, ◌<◌, ◌==◌, Bool, true, false, cond, ◌||◌, ◌&&◌, not, ◌⊎◌, inl, inr, List, length, Option, Some, None, IsSome, is_some, Result, Ok, Err, refl, sym, ap, ◌∙◌, subst, arith, add-zero, nat_lt, nat_le, eq-eqb}
+use Rattle.std.proofs.Common.{◌≡◌, ◌≢◌, ℕ, ◌+◌, ◌/◌, ◌≤◌, ◌<◌, ◌==◌, Bool, true, false, cond, ◌||◌, not, ◌⊎◌, inl, inr, List, length, Option, Some, None, IsSome, is_some, Ok, refl, sym, ap, ◌∙◌, subst, arith, add-zero, nat_le, eq-eqb}
 use Rattle.std.proofs.lemmas.Bool.{cases_lt, cases_eq, ne_eqb, le-leb}
 use Rattle.std.proofs.lemmas.Bool.Decides.{nat_tests}
 use Rattle.std.specs.Option.{option_map}
-use Rattle.machine_state.specs.Memory.{Swap, Memory, page_size, zeroed}
+use Rattle.machine_state.specs.Memory.{Swap, Memory, page_size}
 use Rattle.machine_state.specs.Regions.{Nature, nature_at, perms_of}
 use Rattle.machine_state.specs.World.{World}
 use Rattle.machine_state.specs.declared.kinds.Region.{Region}
-use Rattle.guest_pages.specs.Table.{Mapped, Table, perms_in, with_entry}
-use Rattle.guest_pages.specs.Pages.{PagesValue, table_of, byte_of, memory_of, mapped_count}
+use Rattle.guest_pages.specs.Table.{Mapped, Table, perms_in}
+use Rattle.guest_pages.specs.Pages.{PagesValue, table_of, byte_of, memory_of}
 use Rattle.guest_pages.specs.Changes.{AllResident, IsMapped, IsZeroed}
 use Rattle.region_map.specs.Ranges.{is_in}
 use Rattle.region_map.specs.Calls.{NoneIn, IsFirst, FitPages, is_mapped, highest_end}
 use Rattle.linux_calls.specs.Call.{gives}
 use Rattle.linux_calls.specs.Parts.{cleared}
 use Rattle.linux_calls.specs.Mapping.{some_in, is_hole, is_file_page, discarded, with_zeros}
-use Rattle.linux_calls.specs.View.{View, with_parts, FitParts, KeepsPages}
+use Rattle.linux_calls.specs.View.{View, with_parts}
 use Rattle.linux_calls.specs.Following.{AreZeroed, DoesAtOnce}
 use Rattle.linux_calls.proofs.RangeLemmas.{scan, one_some}
 

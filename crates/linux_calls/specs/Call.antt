@@ -1,9 +1,8 @@
 -- System calls: the number and the answer are in rax, the arguments in rdi, rsi, rdx, r10, r8 and r9 (System V ABI for AMD64, A.2.1).
-use Rattle.std.specs.Prelude.{ℕ, ◌-◌, ◌%◌, ◌^◌, ◌==◌, Bool, is_none, not, List, Option, Some, None, min, slice_index, slice_set}
+use Rattle.std.specs.Prelude.{ℕ, ◌-◌, ◌%◌, ◌^◌, ◌==◌, Bool, is_none, List, Option, Some, None, slice_index, slice_set}
 use Rattle.gpr_flags.specs.Registers.{RAX, RDX, RSI, RDI}
 use Rattle.machine_state.specs.declared.kinds.Kind.{Kind}
 use Rattle.machine_state.specs.Memory.{page_size, Memory, first_miss, written}
-use Rattle.machine_state.specs.State.{State}
 use Rattle.machine_state.specs.World.{World}
 use Rattle.guest_files.specs.declared.errno.Errno.{Errno}
 

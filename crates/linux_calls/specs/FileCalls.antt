@@ -1,7 +1,6 @@
 -- The calls on descriptors that move no bytes of a file (Linux, open(2), close(2), lseek(2), ioctl(2), in part).
-use Rattle.std.specs.Prelude.{ℕ, ◌-◌, ◌^◌, ◌==◌, Bool, not, ◌&&◌, List, [], ◌∷◌, slice_index, Option, Some, None, is_none}
+use Rattle.std.specs.Prelude.{ℕ, ◌-◌, ◌^◌, ◌==◌, Bool, not, ◌&&◌, List, [], ◌∷◌, slice_index, is_none}
 use Rattle.std.specs.Int.{w64, cast_signed}
-use Rattle.machine_state.specs.State.{State}
 use Rattle.machine_state.specs.World.{World, place_at}
 use Rattle.guest_files.specs.Checks.{first_failing}
 use Rattle.guest_files.specs.Errnos.{ebadf}

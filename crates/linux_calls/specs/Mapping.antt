@@ -1,11 +1,9 @@
 -- The calls on the pages of memory (Linux, mmap(2), mprotect(2), munmap(2), brk(2), madvise(2), in part).
-use Rattle.std.specs.Prelude.{ℕ, zero, suc, ◌+◌, ◌-◌, ◌*◌, ◌/◌, ◌%◌, ◌==◌, Bool, true, false, not, ◌&&◌, ◌||◌, if◌then◌else◌, nat_lt, nat_le, List, [], ◌∷◌, Option, Some, None, is_none, unwrap_or}
-use Rattle.std.specs.Int.RustNames.{bit_and}
+use Rattle.std.specs.Prelude.{ℕ, zero, suc, ◌+◌, ◌-◌, ◌*◌, ◌/◌, ◌%◌, ◌==◌, Bool, false, not, ◌&&◌, ◌||◌, if◌then◌else◌, nat_lt, nat_le, List, [], ◌∷◌, Option, Some, None, is_none, unwrap_or}
 use Rattle.std.specs.List.{list_any, range_with_len}
 use Rattle.std.specs.Option.{option_map}
 use Rattle.machine_state.specs.Memory.{page_size}
 use Rattle.machine_state.specs.Regions.{nature_at}
-use Rattle.machine_state.specs.State.{State}
 use Rattle.machine_state.specs.World.{World, place_at}
 use Rattle.machine_state.specs.declared.kinds.Place.{Place}
 use Rattle.machine_state.specs.declared.kinds.Region.{Region}
@@ -45,9 +43,9 @@ refusal_or (Some errno) other = Some errno
 unfoldable pub protected : Perms → (from count : ℕ) → World → Called
 protected perms from count w =
     unless (first_failing (
-      (some_in (is_hole w.regions) from count, enomem)
-      ∷ (passes_limits w.pages (changed_regions (Protect perms) from (from + count) w.regions), enomem)
-      ∷ []
+    (some_in (is_hole w.regions) from count, enomem)
+    ∷ (passes_limits w.pages (changed_regions (Protect perms) from (from + count) w.regions), enomem)
+    ∷ []
     )) w (gives 0 (with_change (Protect perms) from (from + count) w))
 
 unfoldable pub mprotect_call : World → Called
@@ -68,10 +66,10 @@ munmap_call w =
     let from = rdi gprs / page_size in
     let to = from + pages_up (rsi gprs) in
     unless (first_failing (
-      (not (is_page (rdi gprs)), einval)
-      ∷ (rsi gprs == 0, einval)
-      ∷ (nat_lt highest_end to, einval)
-      ∷ []
+    (not (is_page (rdi gprs)), einval)
+    ∷ (rsi gprs == 0, einval)
+    ∷ (nat_lt highest_end to, einval)
+    ∷ []
     )) w (unmapped from to w)
 
 -- ---- brk: rdi is the new break
@@ -203,10 +201,10 @@ unfoldable pub mmap_refusal : (gprs : List ℕ) → List (Option Place) → Opti
 mmap_refusal gprs places =
     let flags = r10 gprs in
     refusal_or (first_failing (
-      (rsi gprs == 0, einval)
-      ∷ (not (is_page (r9 gprs)), einval)
-      ∷ (not (sharing_of flags == 1) && not (sharing_of flags == 2), einval)
-      ∷ []
+    (rsi gprs == 0, einval)
+    ∷ (not (is_page (r9 gprs)), einval)
+    ∷ (not (sharing_of flags == 1) && not (sharing_of flags == 2), einval)
+    ∷ []
     ))
     (refusal_or (if is_anonymous flags then None else file_refusal flags (place_at places (mapped_descriptor gprs)))
     (if is_fixed flags then place_refusal (rdi gprs) (pages_up (rsi gprs)) else None))

@@ -2,7 +2,6 @@
 use Rattle.std.specs.Prelude.{ℕ, ◌/◌, Bool, ◌||◌, if◌then◌else◌, nat_lt, List, length}
 use Rattle.machine_state.specs.Memory.{page_size}
 use Rattle.machine_state.specs.Regions.{nature_at, perms_of, page_sum, most_regions}
-use Rattle.machine_state.specs.State.{State}
 use Rattle.machine_state.specs.World.{World}
 use Rattle.machine_state.specs.declared.kinds.Region.{Region}
 use Rattle.guest_files.specs.Files.{FilesValue}
@@ -37,8 +36,10 @@ with_change change from to w =
     let regions = changed_regions change from to w.regions in
     record w {
       regions = regions;
-      state = record w.state { memory = record {
-        perms = λ page. perms_of (nature_at regions page);
-        byte = bytes_after change from to w.state.memory.byte;
-      } };
+      state = record w.state {
+        memory = record {
+          perms = λ page. perms_of (nature_at regions page);
+          byte = bytes_after change from to w.state.memory.byte;
+        };
+      };
     }

@@ -1,14 +1,11 @@
 -- The calls that write a record of fixed length, and those on the bases of FS and GS (Linux, uname(2), arch_prctl(2),
 -- clock_gettime(2), stat(2) of x86-64).
-use Rattle.std.specs.Prelude.{ℕ, ◌-◌, ◌*◌, ◌/◌, ◌%◌, ◌^◌, ◌==◌, Bool, not, ◌||◌, nat_le, if◌then◌else◌, List, [], ◌∷◌, ◌++◌, length, Option, Some, None, is_none, replicate, codes, unwrap_or}
+use Rattle.std.specs.Prelude.{ℕ, ◌-◌, ◌*◌, ◌/◌, ◌%◌, ◌^◌, ◌==◌, Bool, not, ◌||◌, nat_le, if◌then◌else◌, List, [], ◌∷◌, ◌++◌, length, Option, is_none, replicate, codes, unwrap_or}
 use Rattle.machine_state.specs.declared.kinds.Kind.TheVariants.{Write}
-use Rattle.machine_state.specs.declared.kinds.Place.{Place}
 use Rattle.machine_state.specs.Memory.{page_size, number_bytes}
-use Rattle.machine_state.specs.State.{State}
 use Rattle.machine_state.specs.World.{World, place_at}
-use Rattle.guest_files.specs.Checks.{Check, first_failing, is_stream}
+use Rattle.guest_files.specs.Checks.{first_failing, is_stream}
 use Rattle.guest_files.specs.Errnos.{ebadf, einval}
-use Rattle.guest_files.specs.Files.{FilesValue}
 use Rattle.guest_files.specs.Moves.{size_at}
 use Rattle.guest_files.specs.declared.errno.Errno.{Errno}
 use Rattle.region_map.specs.Calls.{highest_end}

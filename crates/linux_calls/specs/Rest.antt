@@ -1,6 +1,5 @@
 -- A call in parts: what is left of it, from where it has come to.
-use Rattle.std.specs.Prelude.{ℕ, Bool, false, List, [], ◌∷◌, Option, Some, None}
-use Rattle.machine_state.specs.State.{State}
+use Rattle.std.specs.Prelude.{ℕ, false, List, [], ◌∷◌, Option, Some, None}
 use Rattle.machine_state.specs.World.{World}
 use Rattle.host_edge.specs.declared.outside.HostCall.{HostCall}
 use Rattle.host_edge.specs.declared.outside.HostCall.TheVariants.{Take, PutOut, PutErr}

@@ -1,6 +1,5 @@
 -- The system calls that there are, and what each does.
 use Rattle.std.specs.Prelude.{ℕ, ◌%◌, ◌^◌, ◌==◌, Bool, true, false, if◌then◌else◌, List, [], ◌∷◌, Option, Some, None}
-use Rattle.machine_state.specs.State.{State}
 use Rattle.machine_state.specs.World.{World}
 use Rattle.linux_calls.specs.declared.kinds.Call.{Call}
 use Rattle.linux_calls.specs.declared.kinds.Call.TheVariants.{Read, Write, Open, Close, Fstat, Lseek, Mmap, Mprotect, Munmap, Brk, Ioctl, Pread64, Pwrite64, Readv, Writev, Madvise, Getpid, Exit, Uname, ArchPrctl, SetTidAddress, ClockGettime, ExitGroup, Openat, Getrandom}

@@ -4,8 +4,6 @@ use Rattle.std.specs.Prelude.{ℕ, ◌+◌, ◌-◌, ◌*◌, ◌/◌, ◌%◌, 
 use Rattle.machine_state.specs.declared.kinds.Kind.{Kind}
 use Rattle.machine_state.specs.declared.kinds.Kind.TheVariants.{Read, Write}
 use Rattle.machine_state.specs.declared.kinds.Place.{Place}
-use Rattle.machine_state.specs.Memory.{Memory}
-use Rattle.machine_state.specs.State.{State}
 use Rattle.machine_state.specs.World.{World, place_at}
 use Rattle.guest_files.specs.Checks.{first_failing}
 use Rattle.guest_files.specs.Content.{count_below}

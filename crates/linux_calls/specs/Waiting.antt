@@ -1,5 +1,5 @@
 -- Where a call may go on, and for which page it waits.
-use Rattle.std.specs.Prelude.{◌≡◌, ◌≤◌, ◌<◌, ◌+◌, ◌*◌, ◌^◌, ℕ, Bool, true, false, ⊤, List, length, Option, Some, None, IsSome, Result, Ok, Err}
+use Rattle.std.specs.Prelude.{◌≡◌, ◌≤◌, ◌<◌, ◌+◌, ◌*◌, ◌^◌, ℕ, Bool, true, false, ⊤, List, length, Option, Some, None, Result, Ok, Err}
 use Rattle.machine_state.specs.declared.kinds.Kind.TheVariants.{Write}
 use Rattle.machine_state.specs.declared.kinds.Miss.TheVariants.{Away}
 use Rattle.machine_state.specs.Memory.{Permissions, page_size}
@@ -242,3 +242,10 @@ IsSlow ClockGettime = ⊤
 IsSlow ExitGroup = ⊥
 IsSlow Openat = ⊤
 IsSlow Getrandom = ⊥
+
+-- after an answer and at the guest's end a call may begin
+abbrev pub Begins : CallEnd → Stage → Type 0
+Begins (Value value) stage = stage ≡ Start
+Begins (ExitEnd code) stage = stage ≡ Start
+Begins (NeedEnd slot) stage = ⊤
+Begins (Host call) stage = ⊤

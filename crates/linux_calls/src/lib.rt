@@ -19,3 +19,6 @@ pub use answering::answer;
 pub use host_edge::HostCall;
 pub use kinds::{CallEnd, Progress};
 pub use world::World;
+
+#[cfg(test)]
+mod tests;

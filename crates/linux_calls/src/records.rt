@@ -8,8 +8,8 @@ ghost use Rattle.linux_calls.specs.Waiting.{NeedsRecordIn};
 ghost use Rattle.linux_calls.specs.Following.{Does, Kept, halt_of as halt_of_spec};
 
 use crate::errnos::{EFAULT, EPERM};
-use crate::kinds::Halt;
 use crate::fields::Fields;
+use crate::kinds::Halt;
 use crate::world::{World, low};
 use guest_files::Errno;
 use guest_pages::Miss;

@@ -22,7 +22,10 @@ use crate::kinds::{Halt, Stage, Transfer};
 use crate::world::World;
 use guest_files::{Errno, Files};
 use guest_pages::Kind;
-use guest_transfers::{Piece, Stop, allowed_pieces, draw_bytes, put_pieces, read_file, take_pieces, total_len, write_file};
+use guest_transfers::{
+    Piece, Stop, allowed_pieces, draw_bytes, put_pieces, read_file, take_pieces, total_len,
+    write_file,
+};
 use host_edge::{HostCall, Sink, Source};
 
 /// The most bytes of a transfer (MAX_RW_COUNT of Linux).

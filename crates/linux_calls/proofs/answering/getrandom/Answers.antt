@@ -1,9 +1,8 @@
-use Rattle.std.proofs.Common.{◌≡◌, ◌∙◌, refl, sym, ap, rules, arith, nat_lt, true, false}
+use Rattle.std.proofs.Common.{◌≡◌, refl, rules, nat_lt, true, false}
 use Rattle.std.proofs.lemmas.Bool.{lt-ltb, le-ltb}
 use Rattle.linux_calls.specs.declared.kinds.Call.TheVariants.{Getrandom}
 use Rattle.linux_calls.specs.Call.{low, rdx}
 use Rattle.linux_calls.specs.Transfers.{getrandom_call, random_flags}
-use Rattle.linux_calls.specs.View.{view_of, with_parts}
 use Rattle.linux_calls.proofs.WorkLemmas.{works_same, works_part}
 use Rattle.linux_calls.proofs.StartLemmas.{transfer_by}
 use Rattle.linux_calls.proofs.answering.getrandom.Goals as goal

@@ -1,11 +1,7 @@
-use Rattle.std.proofs.Common.{◌≡◌, ◌∙◌, refl, sym, ap, subst, ℕ, List, Option, Some, None, rules}
-use Rattle.linux_calls.specs.declared.kinds.Call.{Call}
-use Rattle.linux_calls.specs.declared.kinds.Stage.{Stage}
-use Rattle.linux_calls.specs.declared.kinds.Stage.TheVariants.{Start, Listing, Moving, Copying}
-use Rattle.linux_calls.specs.declared.kinds.Transfer.{Transfer}
+use Rattle.std.proofs.Common.{◌∙◌, sym, rules}
 use Rattle.linux_calls.specs.Rest.{rest_of}
 use Rattle.linux_calls.specs.Mapping.{copy_rest}
-use Rattle.linux_calls.specs.View.{view_of, with_parts}
+use Rattle.linux_calls.specs.View.{view_of}
 use Rattle.linux_calls.proofs.WorkLemmas.{works_same, works_part}
 use Rattle.linux_calls.proofs.CallLemmas.{rest_begins, rest_unknown, rest_listing, rest_moves, rest_copying, part_as, stays_on}
 use Rattle.linux_calls.proofs.answering.go_on.Goals as goal
@@ -31,5 +27,5 @@ pub returns-in-Copying : goal.returns-in-Copying
 returns-in-Copying g c =
     works_part c.copy_on.ensures.kept
     (part_as (rest_of c.args.w.now.progress.now) (copy_rest c.in-Copying.at c.in-Copying.done) (view_of c.args.w.now) (view_of c.copy_on.new.w) c.copy_on.result
-        (λ swap base. rest_copying (view_of c.args.w.now) c.in-Copying.at c.in-Copying.done swap base (sym c.stage.ensures ∙ c.in-Copying.is)) c.copy_on.ensures.does)
+    (λ swap base. rest_copying (view_of c.args.w.now) c.in-Copying.at c.in-Copying.done swap base (sym c.stage.ensures ∙ c.in-Copying.is)) c.copy_on.ensures.does)
     c.copy_on.ensures.needs

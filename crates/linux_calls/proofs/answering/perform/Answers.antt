@@ -1,5 +1,4 @@
-use Rattle.std.proofs.Common.{◌≡◌, ◌∙◌, refl, sym, ap, subst, ℕ, List, Option, Some, rules}
-use Rattle.guest_transfers.specs.declared.kinds.Piece.{Piece}
+use Rattle.std.proofs.Common.{◌∙◌, sym, ap, Option}
 use Rattle.linux_calls.specs.declared.kinds.Transfer.{Transfer}
 use Rattle.linux_calls.specs.declared.kinds.Call.TheVariants.{Read, Write, Pread64, Pwrite64, Readv, Writev}
 use Rattle.linux_calls.specs.Call.{low, rdi, rsi, rdx}
@@ -15,28 +14,28 @@ unfolding read_call
 returns-in-Read g c =
     let is = c.transfer_of-transfer.ensures ∙ transfer_by Read c.args.w.now.gprs.now c.args.w.now.files.now 0 (rw c.in-Read.is at c.requires.is) in
     rw c.in-Read.is (works_same c.moving.ensures (λ swap base.
-        ap (λ (o : Option Transfer). begun o (named_piece (rsi c.args.w.now.gprs.now) (rdx c.args.w.now.gprs.now)) (with_parts swap (view_of c.args.w.now) base)) (sym is)))
+    ap (λ (o : Option Transfer). begun o (named_piece (rsi c.args.w.now.gprs.now) (rdx c.args.w.now.gprs.now)) (with_parts swap (view_of c.args.w.now) base)) (sym is)))
 
 pub returns-in-Write : goal.returns-in-Write
 unfolding write_call
 returns-in-Write g c =
     let is = c.transfer_of-transfer.ensures ∙ transfer_by Write c.args.w.now.gprs.now c.args.w.now.files.now 0 (rw c.in-Write.is at c.requires.is) in
     rw c.in-Write.is (works_same c.moving-in-Write.ensures (λ swap base.
-        ap (λ (o : Option Transfer). begun o (named_piece (rsi c.args.w.now.gprs.now) (rdx c.args.w.now.gprs.now)) (with_parts swap (view_of c.args.w.now) base)) (sym is)))
+    ap (λ (o : Option Transfer). begun o (named_piece (rsi c.args.w.now.gprs.now) (rdx c.args.w.now.gprs.now)) (with_parts swap (view_of c.args.w.now) base)) (sym is)))
 
 pub returns-in-Pread64 : goal.returns-in-Pread64
 unfolding pread64_call
 returns-in-Pread64 g c =
     let is = c.transfer_of-transfer.ensures ∙ transfer_by Pread64 c.args.w.now.gprs.now c.args.w.now.files.now 0 (rw c.in-Pread64.is at c.requires.is) in
     rw c.in-Pread64.is (works_same c.moving-in-Pread64.ensures (λ swap base.
-        ap (λ (o : Option Transfer). begun o (named_piece (rsi c.args.w.now.gprs.now) (rdx c.args.w.now.gprs.now)) (with_parts swap (view_of c.args.w.now) base)) (sym is)))
+    ap (λ (o : Option Transfer). begun o (named_piece (rsi c.args.w.now.gprs.now) (rdx c.args.w.now.gprs.now)) (with_parts swap (view_of c.args.w.now) base)) (sym is)))
 
 pub returns-in-Pwrite64 : goal.returns-in-Pwrite64
 unfolding pwrite64_call
 returns-in-Pwrite64 g c =
     let is = c.transfer_of-transfer.ensures ∙ transfer_by Pwrite64 c.args.w.now.gprs.now c.args.w.now.files.now 0 (rw c.in-Pwrite64.is at c.requires.is) in
     rw c.in-Pwrite64.is (works_same c.moving-in-Pwrite64.ensures (λ swap base.
-        ap (λ (o : Option Transfer). begun o (named_piece (rsi c.args.w.now.gprs.now) (rdx c.args.w.now.gprs.now)) (with_parts swap (view_of c.args.w.now) base)) (sym is)))
+    ap (λ (o : Option Transfer). begun o (named_piece (rsi c.args.w.now.gprs.now) (rdx c.args.w.now.gprs.now)) (with_parts swap (view_of c.args.w.now) base)) (sym is)))
 
 pub returns-in-Readv : goal.returns-in-Readv
 unfolding readv_call

@@ -57,4 +57,3 @@ pub returns-in-Openat-clause-needs : goal.returns-in-Openat-clause-needs
 returns-in-Openat-clause-needs c =
     path_needs Openat (view_of c.args.w.now) (view_of c.openat.new.w) (rsi c.openat.new.w.gprs.now) c.openat.result c.requires.begins (rw c.in-Openat.is at c.requires.is) c.openat.ensures.does
     (λ slot h. h) c.openat.ensures.needs
-

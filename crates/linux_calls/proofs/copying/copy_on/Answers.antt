@@ -1,4 +1,4 @@
-use Rattle.std.proofs.Common.{◌≡◌, ◌≤◌, ◌∙◌, sym, ap, arith}
+use Rattle.std.proofs.Common.{◌∙◌, ap, arith}
 use Rattle.linux_calls.specs.Rest.{ProgressValue, rest_of}
 use Rattle.linux_calls.specs.View.{view_of, with_parts}
 use Rattle.linux_calls.proofs.CopyLemmas.{copies_whole, copies_away}

@@ -1,5 +1,5 @@
-use Rattle.std.proofs.Common.{◌≡◌, ◌∙◌, sym, ap, refl, false, ℕ, Option, Some, None}
-use Rattle.linux_calls.proofs.CopyLemmas.{highest_is, highest_bounds}
+use Rattle.std.proofs.Common.{◌∙◌, sym, ℕ, Option, Some, None}
+use Rattle.linux_calls.proofs.CopyLemmas.{highest_is}
 use Rattle.linux_calls.proofs.copying.free_page.Goals as goal
 
 abbrev no_addr : Option ℕ

@@ -1,4 +1,4 @@
-use Rattle.std.proofs.Common.{◌≡◌, ◌∙◌, ◌%◌, sym, ap, arith, refl, true, eq-eqb}
+use Rattle.std.proofs.Common.{◌≡◌, ◌%◌, sym, arith, true, eq-eqb}
 use Rattle.machine_state.specs.Memory.{page_size}
 use Rattle.linux_calls.specs.Call.{is_page}
 use Rattle.linux_calls.proofs.CopyLemmas.{hint_none, hint_some}

@@ -1,4 +1,4 @@
-use Rattle.std.proofs.Common.{◌≡◌, ◌∙◌, ◌*◌, ◌/◌, sym, ap, arith, refl}
+use Rattle.std.proofs.Common.{◌≡◌, ◌*◌, ◌/◌, arith, refl}
 use Rattle.machine_state.specs.Memory.{page_size}
 use Rattle.linux_calls.specs.Mapping.{filled_from, mapped_at}
 use Rattle.linux_calls.specs.View.{view_of}
@@ -13,8 +13,8 @@ returns-in-Ok-clause-does c =
     let anonymous = rw c.get.ensures at c.is_anonymous-file.ensures in
     part_then (view_of c.args.w.now) c.args.page c.map.new.pages c.map.new.self (mapped_at c.args.page) (filled_from (c.args.page * page_size)) (view_of c.fill.new.w) c.fill.result
     (mapped_then (view_of c.args.w.now) c.args.page c.map.new.pages c.map.new.self
-        (λ pass. let e = (rw (page, count, perms, anonymous) at c.in-Ok.ensures.full).1 pass in cc)
-        (rw (page, count, perms, anonymous) at c.in-Ok.ensures.ok) c.in-Ok.ensures.fit c.in-Ok.ensures.heap.0 c.in-Ok.ensures.heap.1)
+    (λ pass. let e = (rw (page, count, perms, anonymous) at c.in-Ok.ensures.full).1 pass in cc)
+    (rw (page, count, perms, anonymous) at c.in-Ok.ensures.ok) c.in-Ok.ensures.fit c.in-Ok.ensures.heap.0 c.in-Ok.ensures.heap.1)
     c.fill.ensures.does
 
 pub returns-in-Err-clause-does : goal.returns-in-Err-clause-does

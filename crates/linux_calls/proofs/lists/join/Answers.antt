@@ -1,4 +1,4 @@
-use Rattle.std.proofs.Common.{◌≡◌, ◌∙◌, ◌<◌, ◌≤◌, refl, sym, ap, rules, arith, nat_lt, true, false}
+use Rattle.std.proofs.Common.{◌<◌, ◌≤◌, refl, rules, arith}
 use Rattle.std.proofs.lemmas.Bool.{lt-ltb, le-ltb}
 use Rattle.guest_transfers.specs.Pieces.{asked, most_asked}
 use Rattle.linux_calls.specs.Transfers.{joined_transfer}

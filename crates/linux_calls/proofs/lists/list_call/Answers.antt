@@ -1,12 +1,12 @@
-use Rattle.std.proofs.Common.{◌≡◌, ◌≤◌, ◌<◌, ◌^◌, ◌∙◌, refl, sym, ap, rules, arith, List, [], length, nat_lt, true, false}
-use Rattle.std.proofs.lemmas.Bool.{lt-ltb, le-ltb}
+use Rattle.std.proofs.Common.{◌≡◌, refl, sym, ap, arith, List, length, nat_lt, false}
+use Rattle.std.proofs.lemmas.Bool.{le-ltb}
 use Rattle.guest_transfers.specs.Buffers.{most_buffers}
 use Rattle.guest_transfers.specs.declared.kinds.Piece.{Piece}
 use Rattle.linux_calls.specs.Call.{rdx}
 use Rattle.linux_calls.specs.Rest.{ProgressValue}
 use Rattle.linux_calls.specs.Transfers.{list_rest}
 use Rattle.linux_calls.specs.View.{view_of, with_parts}
-use Rattle.linux_calls.proofs.WorkLemmas.{works_from, works_same, works_part}
+use Rattle.linux_calls.proofs.WorkLemmas.{works_from, works_same}
 use Rattle.linux_calls.proofs.lists.list_call.Goals as goal
 
 pub list_on-requires-clause-place : goal.list_on-requires-clause-place

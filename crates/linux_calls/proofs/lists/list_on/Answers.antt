@@ -1,5 +1,4 @@
-use Rattle.std.proofs.Common.{◌≡◌, ◌∙◌, refl, sym, ap, subst, rules, Err}
-use Rattle.linux_calls.specs.Call.{rsi, rdx}
+use Rattle.std.proofs.Common.{◌∙◌, refl, sym, ap, subst, rules}
 use Rattle.linux_calls.specs.Rest.{ProgressValue, rest_of}
 use Rattle.linux_calls.specs.Waiting.{IsNeeded}
 use Rattle.linux_calls.specs.View.{view_of, with_parts}
@@ -24,7 +23,7 @@ returns-in-Away g c =
     let read = rw (c.rsi-addr.ensures, c.rdx-count.ensures) at c.in-Away.ensures.reads in
     works_part (search rules)
     (λ swap base. ap (λ (p : ProgressValue). rest_of p (with_parts swap (view_of c.args.w.now) base)) c.wait.ensures
-        ∙ list_away c.args.transfer (view_of c.args.w.now) c.args.w.now.progress.now.pieces c.read.new.self.pieces c.in-Away.slot c.requires.is read.0 read.1 swap base)
+    ∙ list_away c.args.transfer (view_of c.args.w.now) c.args.w.now.progress.now.pieces c.read.new.self.pieces c.in-Away.slot c.requires.is read.0 read.1 swap base)
     (let P : ProgressValue → Type 0 = λ p. IsNeeded (let v = view_of c.args.w.now in record v { progress = p }) c.in-Away.slot in
     subst P (sym c.wait.ensures)
-        (list_needs c.args.transfer (view_of c.args.w.now) c.args.w.now.progress.now.pieces c.read.new.self.pieces c.in-Away.slot c.requires.is c.requires.listed c.requires.most read.0 read.1))
+    (list_needs c.args.transfer (view_of c.args.w.now) c.args.w.now.progress.now.pieces c.read.new.self.pieces c.in-Away.slot c.requires.is c.requires.listed c.requires.most read.0 read.1))

@@ -1,4 +1,4 @@
-use Rattle.std.proofs.Common.{◌≡◌, ◌+◌, ◌*◌, ◌/◌, arith}
+use Rattle.std.proofs.Common.{◌≡◌, ◌*◌, ◌/◌, arith}
 use Rattle.linux_calls.proofs.ZeroLemmas.{zeroed_step}
 use Rattle.linux_calls.proofs.mapping.zero_pages.Goals as goal
 

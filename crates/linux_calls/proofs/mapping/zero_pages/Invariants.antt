@@ -1,4 +1,3 @@
-use Rattle.std.proofs.Common.{ℕ}
 use Rattle.linux_calls.specs.Following.{AreZeroed}
 use Rattle.linux_calls.proofs.mapping.zero_pages.Given as goal
 

@@ -1,4 +1,4 @@
-use Rattle.std.proofs.Common.{◌∙◌, ◌≡◌}
+use Rattle.std.proofs.Common.{◌∙◌}
 use Rattle.guest_transfers.specs.Paths.{Text, TooLong, Fault}
 use Rattle.linux_calls.specs.View.{view_of}
 use Rattle.linux_calls.proofs.PathLemmas.{opened_path}
@@ -19,4 +19,3 @@ pub returns-in-Err-clause-does : goal.returns-in-Err-clause-does
 returns-in-Err-clause-does c swap base =
     opened_path (view_of c.args.w.now) c.args.fd c.args.addr c.args.flags (Text c.as_slice.result.now) (λ swap. rw c.as_slice.ensures.value (c.in-Text.ensures swap)) swap base
     ∙ c.in-Err.ensures.does swap base
-

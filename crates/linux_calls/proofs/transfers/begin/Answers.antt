@@ -1,4 +1,4 @@
-use Rattle.std.proofs.Common.{◌≡◌, ◌∙◌, ap, sym, refl, rules, ℕ, Option, Some, IsSome, Err}
+use Rattle.std.proofs.Common.{◌∙◌, sym, refl, rules, IsSome, Err}
 use Rattle.linux_calls.specs.declared.kinds.Halt.TheVariants.{Refused}
 use Rattle.linux_calls.specs.Errnos.{efault}
 use Rattle.linux_calls.specs.Transfers.{transferred, transfer_rest}

@@ -1,6 +1,6 @@
 use Rattle.std.proofs.Common.{sym, ◌∙◌}
 use Rattle.linux_calls.specs.View.{view_of}
-use Rattle.linux_calls.proofs.DrawMoves.{draws_do, draws_need}
+use Rattle.linux_calls.proofs.DrawMoves.{draws_do}
 use Rattle.linux_calls.proofs.transfers.draw_on.Goals as goal
 
 pub returns-clause-does : goal.returns-clause-does

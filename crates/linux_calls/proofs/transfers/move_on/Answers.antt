@@ -1,7 +1,5 @@
-use Rattle.std.proofs.Common.{◌≡◌, ◌∙◌, ap, sym, refl, rules, ℕ, Option, Some, IsSome}
-use Rattle.linux_calls.specs.declared.kinds.Transfer.{Transfer}
+use Rattle.std.proofs.Common.{refl, IsSome}
 use Rattle.linux_calls.specs.declared.kinds.Transfer.TheVariants.{Takes, PutsOut, PutsErr, Reads, Draws}
-use Rattle.linux_calls.specs.Rest.{transfer_of}
 use Rattle.linux_calls.specs.Transfers.{takes_rest, out_rest, err_rest}
 use Rattle.linux_calls.specs.Outside.{streams}
 use Rattle.linux_calls.specs.View.{view_of}

@@ -1,4 +1,4 @@
-use Rattle.std.proofs.Common.{◌≡◌, ℕ, List, [], sym, ap, ◌∙◌, subst, Option, IsSome, false}
+use Rattle.std.proofs.Common.{◌≡◌, List, [], sym, subst, Option, IsSome, false}
 use Rattle.machine_state.specs.Memory.{Swap}
 use Rattle.machine_state.specs.World.{place_at}
 use Rattle.machine_state.specs.declared.kinds.Place.{Place}
@@ -31,7 +31,7 @@ pub returns-clause-does : goal.returns-clause-does
 returns-clause-does c =
     writes_do (view_of c.args.w.now) c.args.fd c.args.at c.args.moves c.args.from c.write_file-stop.new.files c.write_file-stop.result (view_of c.finish_at.new.w) c.finish_at.result
     (same_writes c.args.w.now.gprs.now c.args.w.now.files.now c.write_file-stop.new.files (byte_of c.args.w.now.pages.now no_swap) c.args.w.now.progress.now.pieces c.args.from c.args.fd c.args.at c.args.moves
-        c.write_file-stop.result (table_of c.args.w.now.pages.now) c.known.ensures.kept c.requires.is (rw c.pieces.ensures at c.write_file-stop.ensures.stops) (rw c.pieces.ensures at (c.write_file-stop.ensures.writes no_swap)))
+    c.write_file-stop.result (table_of c.args.w.now.pages.now) c.known.ensures.kept c.requires.is (rw c.pieces.ensures at c.write_file-stop.ensures.stops) (rw c.pieces.ensures at (c.write_file-stop.ensures.writes no_swap)))
     (λ swap. rw c.pieces.ensures at (c.write_file-stop.ensures.writes swap)) (rw c.pieces.ensures at c.write_file-stop.ensures.stops) c.finish_at.ensures.ends
 
 pub returns-clause-needs : goal.returns-clause-needs
@@ -39,6 +39,6 @@ returns-clause-needs c =
     writes_need (view_of c.args.w.now) c.args.fd c.args.at c.args.moves c.args.from c.write_file-stop.new.files c.write_file-stop.result (view_of c.finish_at.new.w) c.finish_at.result
     c.requires.can
     (same_writes c.args.w.now.gprs.now c.args.w.now.files.now c.write_file-stop.new.files (byte_of c.args.w.now.pages.now no_swap) c.args.w.now.progress.now.pieces c.args.from c.args.fd c.args.at c.args.moves
-        c.write_file-stop.result (table_of c.args.w.now.pages.now) c.known.ensures.kept c.requires.is (rw c.pieces.ensures at c.write_file-stop.ensures.stops) (rw c.pieces.ensures at (c.write_file-stop.ensures.writes no_swap)))
+    c.write_file-stop.result (table_of c.args.w.now.pages.now) c.known.ensures.kept c.requires.is (rw c.pieces.ensures at c.write_file-stop.ensures.stops) (rw c.pieces.ensures at (c.write_file-stop.ensures.writes no_swap)))
     (writes_places (byte_of c.args.w.now.pages.now no_swap) c.pieces.result.now c.args.from c.args.w.now.files.now c.write_file-stop.new.files c.args.fd c.args.at c.write_file-stop.result (c.write_file-stop.ensures.writes no_swap)) (writes_low (byte_of c.args.w.now.pages.now no_swap) c.args.w.now.progress.now.pieces c.args.from c.args.w.now.files.now c.write_file-stop.new.files c.args.fd c.args.at c.write_file-stop.result
-        c.known.ensures.cap c.requires.can.other.1 (rw c.pieces.ensures at (c.write_file-stop.ensures.writes no_swap))) (rw c.pieces.ensures at c.write_file-stop.ensures.stops) c.finish_at.ensures.ends
+    c.known.ensures.cap c.requires.can.other.1 (rw c.pieces.ensures at (c.write_file-stop.ensures.writes no_swap))) (rw c.pieces.ensures at c.write_file-stop.ensures.stops) c.finish_at.ensures.ends
