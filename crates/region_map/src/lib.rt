@@ -12,4 +12,4 @@ pub use guest_pages::{Full, Pages};
 pub use kinds::{BreakFault, ProtectFault};
 pub use laws::{bounds_law, fitting_law, regions_law};
 pub use machine_state::Perms;
-pub use regions::Regions;
+pub use regions::{Regions, pages_up};

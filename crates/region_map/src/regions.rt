@@ -48,8 +48,8 @@ fn within(list: RegionList, pages: &Pages) -> Result<RegionList, Full>
     }
 }
 
-// The number of the first page at an address or above it.
-fn pages_up(addr: u64) -> u64
+/// The number of the first page at an address or above it.
+pub fn pages_up(addr: u64) -> u64
     ensures value { result ≡ up_of addr }
     ensures small { result ≤ 0x10000000000000 }
 {

@@ -1,0 +1,13 @@
+pub mod Errnos
+pub mod Call
+pub mod Parts
+pub mod Transfers
+pub mod FileCalls
+pub mod Mapping
+pub mod Records
+pub mod Table
+pub mod Rest
+pub mod View
+pub mod Outside
+pub mod Waiting
+pub mod Following

@@ -1,0 +1,252 @@
+//! Calls at work, one after the other in one guest: each table has the calls with their arguments and what they answer.
+ghost use Rattle.std.specs.Prelude.{◌≡◌, IfOk, OnSome};
+ghost use Rattle.region_map.specs.Calls.{FitPages};
+ghost use Rattle.linux_calls.specs.Waiting.{Begins};
+ghost use Rattle.linux_calls.specs.declared.kinds.Stage;
+
+mod cases;
+
+use crate::kinds::{CallEnd, Progress};
+use crate::world::{R8, R9, R10};
+use crate::{World, answer};
+use cases::{
+    Step, buffers, drawn, files as file_calls, lists, mapping, others, random, records, streams,
+};
+use gpr_flags::{Gprs, RAX, RDI, RDX, RSI};
+use guest_files::{Entry, Files};
+use guest_pages::Pages;
+use host_edge::{HostCall, MemSink, MemSource};
+use region_map::Regions;
+use std::alloc::{AllocError, Global};
+use std::test::Fail;
+
+/// A guest's parts, before a call.
+#[derive(Drop)]
+struct Guest {
+    gprs: Gprs,
+    fs: u64,
+    gs: u64,
+    pages: Pages,
+    regions: Regions,
+    files: Files,
+    random: u64,
+    progress: Progress,
+    steps: u64,
+}
+
+// Makes a call.
+fn call(
+    guest: &mut Guest,
+    step: &Step,
+    input: &mut MemSource,
+    out: &mut MemSink,
+    err: &mut MemSink,
+) -> CallEnd
+    requires fit { FitPages guest.old.pages guest.old.regions.regions }
+    requires begins { guest.old.progress.stage ≡ Stage.Start }
+    ensures fit { FitPages guest.new.pages guest.new.regions.regions }
+    ensures begins { Begins result guest.new.progress.stage }
+{
+    guest.gprs.set(RAX, step.0);
+    guest.gprs.set(RDI, step.1[0]);
+    guest.gprs.set(RSI, step.1[1]);
+    guest.gprs.set(RDX, step.1[2]);
+    guest.gprs.set(R10, step.1[3]);
+    guest.gprs.set(R8, step.1[4]);
+    guest.gprs.set(R9, step.1[5]);
+    let steps = guest.steps;
+    let mut w = World {
+        gprs: &mut guest.gprs,
+        fs: &mut guest.fs,
+        gs: &mut guest.gs,
+        pages: &mut guest.pages,
+        regions: &mut guest.regions,
+        files: &mut guest.files,
+        random: &mut guest.random,
+        progress: &mut guest.progress,
+        steps,
+    };
+    answer(&mut w, input, out, err)
+}
+
+// How many calls of a table answer as it says, up to the first that doesn't.
+fn play(
+    guest: &mut Guest,
+    steps: &[Step],
+    input: &mut MemSource,
+    out: &mut MemSink,
+    err: &mut MemSink,
+) -> usize
+    requires fit { FitPages guest.old.pages guest.old.regions.regions }
+    requires begins { guest.old.progress.stage ≡ Stage.Start }
+    ensures fit { FitPages guest.new.pages guest.new.regions.regions }
+{
+    for (index, step) in steps.iter().enumerate() {
+        match call(guest, step, input, out, err) {
+            CallEnd::Value(value) => {
+                if value != step.2 {
+                    return index;
+                }
+            }
+            CallEnd::Exit(_) | CallEnd::Need(_) | CallEnd::Host(_) => return index,
+        }
+    }
+    steps.len()
+}
+
+// A guest with so many frames and pages, of which none is mapped, a file `a` to read and a file `o` to write.
+fn make_guest(alloc: Global, frames: u32, pages: u32) -> Result<Guest, Fail>
+    ensures fit { IfOk result (λ guest. FitPages guest.pages guest.regions.regions) }
+    ensures begins { IfOk result (λ guest. guest.progress.stage ≡ Stage.Start) }
+{
+    if frames < 8 || frames > pages {
+        return Err(Fail::from("too few frames"));
+    }
+    Ok(Guest {
+        gprs: Gprs::new(),
+        fs: 0,
+        gs: 0,
+        pages: Pages::new(alloc, frames, pages)?,
+        regions: Regions::new(0x20000, 0x20000),
+        files: files(alloc)?,
+        random: 0,
+        progress: Progress::new(),
+        steps: 3_000_000_007,
+    })
+}
+
+// The files of a guest.
+fn files(alloc: Global) -> Result<Files, AllocError> {
+    let mut text = Vec::new(alloc);
+    text.push(b'x')?;
+    text.push(b'y')?;
+    let entries = vec![in alloc;
+        Entry {
+            name: String::from_str(alloc, "a")?,
+            bytes: text,
+            exists: true,
+            writable: false,
+        },
+        Entry {
+            name: String::from_str(alloc, "o")?,
+            bytes: Vec::new(alloc),
+            exists: false,
+            writable: true,
+        },
+    ]?;
+    Files::new(alloc, entries, 6)
+}
+
+// Whether a table's calls answer as it says, with this input, and put this output.
+fn answers(alloc: Global, steps: &[Step], given: &[u8], put: &[u8]) -> Result<bool, Fail> {
+    let mut input = MemSource::new(alloc, given, 100, &[])?;
+    let mut out = MemSink::new(alloc, 4096, &[])?;
+    let mut err = MemSink::new(alloc, 4096, &[])?;
+    let mut guest = make_guest(alloc, 64, 64)?;
+    let done = play(&mut guest, steps, &mut input, &mut out, &mut err);
+    Ok(done == steps.len() && out.bytes() == put)
+}
+
+#[test]
+fn pages_are_mapped_and_unmapped(rt: HostRuntime) -> Result<(), Fail> {
+    assert!(rt; answers(rt.alloc(), mapping(), b"", b"")?);
+    Ok(())
+}
+
+#[test]
+fn files_are_opened_and_moved(rt: HostRuntime) -> Result<(), Fail> {
+    let mut given = [b'n'; 272];
+    given[..16].copy_from_slice(b"a\0b\0o\0/a\0\0\0\0\0\0\0\0");
+    assert!(rt; answers(rt.alloc(), file_calls(), &given, b"xy")?);
+    Ok(())
+}
+
+#[test]
+fn records_are_written(rt: HostRuntime) -> Result<(), Fail> {
+    let mut put = [0; 566];
+    put[..5].copy_from_slice(b"Linux");
+    put[65..69].copy_from_slice(b"xemu");
+    put[130..135].copy_from_slice(b"6.1.0");
+    put[195..197].copy_from_slice(b"#1");
+    put[260..266].copy_from_slice(b"x86_64");
+    put[325..331].copy_from_slice(b"(none)");
+    put[390] = 3;
+    put[398] = 7;
+    put[422] = 1;
+    put[430..432].copy_from_slice(&[0x80, 0x11]);
+    put[463] = 0x10;
+    put[550..552].copy_from_slice(&[0x34, 0x12]);
+    put[558..560].copy_from_slice(&[0x21, 0x43]);
+    assert!(rt; answers(rt.alloc(), records(), b"", &put)?);
+    Ok(())
+}
+
+#[test]
+fn streams_are_read_to_their_end_and_nothing_moves_at_a_fault(rt: HostRuntime) -> Result<(), Fail> {
+    assert!(rt; answers(rt.alloc(), streams(), b"abc", b"abc")?);
+    Ok(())
+}
+
+#[test]
+fn lists_of_buffers_are_one_transfer(rt: HostRuntime) -> Result<(), Fail> {
+    assert!(rt; answers(rt.alloc(), lists(), buffers(), b"hehello")?);
+    Ok(())
+}
+
+#[test]
+fn random_bytes_are_successive_draws(rt: HostRuntime) -> Result<(), Fail> {
+    assert!(rt; answers(rt.alloc(), random(), b"", drawn())?);
+    Ok(())
+}
+
+#[test]
+fn other_numbers_are_no_calls(rt: HostRuntime) -> Result<(), Fail> {
+    assert!(rt; answers(rt.alloc(), others(), b"", b"")?);
+    Ok(())
+}
+
+// How a call ends behind another that is answered, in a guest with so many frames and 64 pages.
+fn second(
+    alloc: Global,
+    frames: u32,
+    first: &Step,
+    then: &Step,
+    out: &mut MemSink,
+) -> Result<CallEnd, Fail> {
+    let mut input = MemSource::new(alloc, b"", 1, &[])?;
+    let mut err = MemSink::new(alloc, 100, &[])?;
+    let mut guest = make_guest(alloc, frames, 64)?;
+    match call(&mut guest, first, &mut input, out, &mut err) {
+        CallEnd::Value(_) => Ok(call(&mut guest, then, &mut input, out, &mut err)),
+        CallEnd::Exit(_) | CallEnd::Need(_) | CallEnd::Host(_) => Err(Fail::from("no answer")),
+    }
+}
+
+#[test]
+fn calls_end_the_guest_wait_and_fail(rt: HostRuntime) -> Result<(), Fail> {
+    let alloc = rt.alloc();
+    let mut out = MemSink::new(alloc, 100, &[(0, 2)])?;
+    let pages = (9, [0x10000, 0x9000, 3, 0x32, 0, 0], 0x10000);
+    let exit = (60, [0x1FF, 0, 0, 0, 0, 0], 0);
+    assert_eq!(rt;
+        second(alloc, 64, &pages, &exit, &mut out)?,
+        CallEnd::Exit(0xFF)
+    );
+    let exit_group = (231, [3, 0, 0, 0, 0, 0], 0);
+    assert_eq!(rt;
+        second(alloc, 64, &pages, &exit_group, &mut out)?,
+        CallEnd::Exit(3)
+    );
+    let away = (63, [0x18000, 0, 0, 0, 0, 0], 0);
+    assert_eq!(rt;
+        second(alloc, 8, &pages, &away, &mut out)?,
+        CallEnd::Need(8)
+    );
+    let write = (1, [1, 0x10000, 4, 0, 0, 0], 4);
+    assert_eq!(rt;
+        second(alloc, 64, &pages, &write, &mut out)?,
+        CallEnd::Host(HostCall::PutOut)
+    );
+    assert_eq!(rt; out.bytes(), b"\0\0");
+    Ok(())
+}
