@@ -21,4 +21,3 @@ pub mod Brings
 pub mod Moves
 pub mod Togethers
 pub mod Aways
-pub mod KernelPuts
