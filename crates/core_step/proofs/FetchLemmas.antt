@@ -227,7 +227,7 @@ stopped-fits (Some (NonCanonical addr)) = tt
 stopped-fits (Some (Away slot)) = tt
 
 -- an instruction that was fetched is one that was seen
-outcome-fits : (bytes : List ℕ) (what : Seen) (stop : Option Miss) → InRange bytes what
+pub outcome-fits : (bytes : List ℕ) (what : Seen) (stop : Option Miss) → InRange bytes what
     → ((d : Decoded) (n : ℕ) → what ≡ Instr d n → IsInstr bytes d n) → IsFetchFit (outcome what stop)
 outcome-fits bytes (Instr d n) stop within instr = ((instr d n refl).decoded, within.1, within.3)
 outcome-fits bytes Short stop within instr = stopped-fits stop

@@ -1,5 +1,5 @@
 -- Every row of the table is performed, and so its instructions aren't undefined.
-use Rattle.std.proofs.Common.{◌≡◌, ◌/◌, ℕ, zero, suc, Bool, true, false, ◌&&◌, cond, nat_lt, List, [], ◌∷◌, slice_get, refl, sym, subst, ◌∙◌}
+use Rattle.std.proofs.Common.{◌≡◌, ◌/◌, ℕ, zero, suc, Bool, true, false, ◌&&◌, cond, nat_lt, List, [], ◌∷◌, slice_get, refl, subst}
 use Rattle.std.proofs.Common.{Some as some}
 use Rattle.std.proofs.lemmas.Bool.{and_parts}
 use Rattle.gpr_flags.specs.declared.kinds.Flags.{Flags}
@@ -12,7 +12,7 @@ use Rattle.machine_state.specs.State.{State}
 use Rattle.row_table.specs.declared.kinds.Row.{Row}
 use Rattle.row_table.specs.declared.kinds.Decoded.{Decoded}
 use Rattle.row_table.specs.declared.operations.Op.{Op}
-use Rattle.row_table.specs.declared.operations.Op.TheVariants.{Core, Gpr, Bit, String, Lane, Cross, Width, Mac, Mask, Vector, Gather, Xsave}
+use Rattle.row_table.specs.declared.operations.Op.TheVariants.{Core, Gpr, Bit, String, Lane, Cross, Width, Mac, Mask, Vector}
 use Rattle.row_table.specs.declared.operations.CoreOp.{CoreOp}
 use Rattle.row_table.specs.declared.operations.CoreOp.TheVariants.{Cmpxchg8b, Nop, Ldmxcsr, Vzeroupper, Vzeroall}
 use Rattle.row_table.specs.declared.operations.GprOp.{GprOp}
@@ -28,7 +28,7 @@ use Rattle.row_table.specs.Vex.{vex_rows, vex_0f, vex_0f38, vex_0f3a}
 use Rattle.row_table.specs.Evex.{evex_rows, evex_0f, evex_0f38, evex_0f3a}
 use Rattle.row_table.specs.Rows.{rows}
 use Rattle.core_step.specs.declared.acted.Acted.{Acted}
-use Rattle.core_step.specs.declared.acted.Acted.TheVariants.{Done, Trap}
+use Rattle.core_step.specs.declared.acted.Acted.TheVariants.{Trap}
 use Rattle.core_step.specs.declared.ways.Way.{Way}
 use Rattle.core_step.specs.declared.ways.Way.TheVariants.{Numbers, Strings, Pair, Vectors, Clears}
 use Rattle.core_step.specs.declared.kinds.Instruction.{Instruction}

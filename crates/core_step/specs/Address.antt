@@ -91,20 +91,29 @@ scaled_index f gprs bases =
     else 0
 
 -- an address of 32 bits with prefix 67, and else of 64 (SDM volume 1, 3.3.7)
+abbrev pub wrapped_to : (wrap32 : Bool) → ℕ → ℕ
+wrapped_to wrap32 number = if wrap32 then number % 2 ^ 32 else number % 2 ^ 64
+
 abbrev pub wrapped : Fields → ℕ → ℕ
-wrapped f number = if f.p67 then number % 2 ^ 32 else number % 2 ^ 64
+wrapped f number = wrapped_to f.p67 number
 
 -- base, index and displacement: the address within the segment
 unfoldable pub offset_of : Fields → ℤ → List ℕ → Bases → ℕ
 offset_of f disp gprs bases = wrapped f (base_of f gprs bases + scaled_index f gprs bases + cast_unsigned w64 disp)
 
 -- the base of FS or GS, where the last of the prefixes 64 and 65 names it (SDM volume 1, 3.3.7.1)
+abbrev pub prefixed_base : (prefix : ℕ) → Bases → ℕ
+prefixed_base prefix bases = if prefix == 0x64 then bases.fs else if prefix == 0x65 then bases.gs else 0
+
 abbrev pub segment_base : Fields → Bases → ℕ
-segment_base f bases = if f.segment == 0x64 then bases.fs else if f.segment == 0x65 then bases.gs else 0
+segment_base f bases = prefixed_base f.segment bases
 
 -- an address within the segment as an address of memory
+abbrev pub in_prefixed : (prefix : ℕ) → Bases → ℕ → ℕ
+in_prefixed prefix bases offset = (offset + prefixed_base prefix bases) % 2 ^ 64
+
 abbrev pub in_segment : Fields → Bases → ℕ → ℕ
-in_segment f bases offset = (offset + segment_base f bases) % 2 ^ 64
+in_segment f bases offset = in_prefixed f.segment bases offset
 
 -- the effective address
 unfoldable pub address_of : Fields → ℤ → List ℕ → Bases → ℕ

@@ -1,5 +1,5 @@
 -- Where an instruction's operand in memory may stand (SDM volume 1, 14.9; volume 3, 6.15).
-use Rattle.std.specs.Prelude.{ℕ, ◌%◌, ◌==◌, Bool, false, not, ◌&&◌, if◌then◌else◌}
+use Rattle.std.specs.Prelude.{ℕ, ◌%◌, ◌==◌, Bool, false, not, ◌&&◌}
 use Rattle.machine_state.specs.State.{State}
 use Rattle.row_table.specs.declared.kinds.Align.{Align}
 use Rattle.row_table.specs.declared.kinds.Align.TheVariants.{Free, Sixteen, Size}

@@ -13,6 +13,7 @@ pub mod Pair
 pub mod Vectors
 pub mod Plan
 pub mod Alignment
+pub mod Forms
 pub mod Pages
 pub mod Fetch
 pub mod Act

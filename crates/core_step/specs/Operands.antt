@@ -167,8 +167,11 @@ operands_away size number =
     then (bytes_in size * (number / bits_in size) + (2 ^ 64 - 2 ^ 61)) % 2 ^ 64
     else bytes_in size * (number / bits_in size)
 
+abbrev pub bit_offset_by : Size → (number : ℕ) → List ℕ → ℕ
+bit_offset_by size number gprs = operands_away size (sign_extended size (cut size (slice_index gprs number)))
+
 abbrev pub bit_offset : Size → Fields → List ℕ → ℕ
-bit_offset size f gprs = operands_away size (sign_extended size (cut size (slice_index gprs (reg_number f))))
+bit_offset size f gprs = bit_offset_by size (reg_number f) gprs
 
 unfoldable pub bit_operand : Size → Fields → ℤ → List ℕ → Bases → Operand
 bit_operand size f disp gprs bases =

@@ -1,9 +1,10 @@
-//! The effective address of a memory operand, and the registers that an instruction names.
-ghost use Rattle.std.specs.Prelude.{◌≡◌, ◌<◌, ◌≤◌, ◌%◌, ◌^◌};
-ghost use Rattle.core_step.specs.Address.{modrm_of, mod_of, is_memory as names_memory, vector_reg as vector_reg_of, reg_number, rm_number, fifth_bit as fifth_bit_of, vector_rm as vector_rm_of, opcode_number, sib_of, has_sib as has_sib_byte, sib_index, sib_base, scale_of, register_for, base_of, scaled_index as index_of, wrapped, offset_of, segment_base as base_of_segment, in_segment as segmented, address_of};
+//! What an instruction's fields name: its registers, and what the address of its memory operand is made of.
+ghost use Rattle.std.specs.Prelude.{◌≡◌, ◌<◌, ◌≤◌, ℕ, List};
+ghost use Rattle.core_step.specs.declared.kinds.Bases.{Bases as AnyBases};
+ghost use Rattle.core_step.specs.Address.{modrm_of, is_memory as names_memory, vector_reg as vector_reg_of, reg_number, rm_number, fifth_bit as fifth_bit_of, vector_rm as vector_rm_of, opcode_number, sib_of, has_sib as has_sib_byte, sib_index, scale_of, base_of, scaled_index, offset_of, in_segment, address_of};
+ghost use Rattle.core_step.specs.Forms.{base_by, index_by, offset_by, address_by, BaseFits, IndexFits, AddressFits};
 
-use crate::kinds::Bases;
-use gpr_flags::{Gprs, RSP};
+use crate::forms::{AddressForm, Base};
 use row_table::{Class, Fields};
 
 /// The ModRM byte, or 0.
@@ -90,40 +91,30 @@ fn has_sib(fields: &Fields) -> bool
     modrm(fields) % 8 == 4
 }
 
-/// A register as an address has it.
-fn register(gprs: &Gprs, bases: Bases, number: u8) -> u64
-    requires { number < 16 }
-    ensures { result ≡ register_for gprs.now bases number }
-{
-    if number == RSP {
-        bases.rsp
-    } else {
-        gprs.get(number)
-    }
-}
-
+/// The base.
 #[tactic(auto, unfolding(crate::specs::Address::base_of))]
-fn base(fields: &Fields, gprs: &Gprs, bases: Bases) -> u64
+fn base(fields: &Fields) -> Base
     requires { fields.now.b < 2 }
-    ensures { result ≡ base_of fields.now gprs.now bases }
+    ensures base { (gprs : List ℕ) (bases : AnyBases) → base_by result gprs bases ≡ base_of fields.now gprs bases }
+    ensures fits { BaseFits result }
 {
     let without = modrm(fields) / 64 == 0;
     if has_sib(fields) {
         let low = sib(fields) % 8;
         if without && low == 5 {
-            0
+            Base::Nothing
         } else {
-            register(gprs, bases, 8 * fields.b + low)
+            Base::Register(8 * fields.b + low)
         }
     } else if without && modrm(fields) % 8 == 5 {
-        bases.next
+        Base::Next
     } else {
-        register(gprs, bases, rm(fields))
+        Base::Register(rm(fields))
     }
 }
 
-/// The index, without its scale.
-fn index(fields: &Fields) -> u8
+/// The number of the index, if there is one or not.
+fn index_number(fields: &Fields) -> u8
     requires { fields.now.x < 2 }
     ensures number { result ≡ sib_index fields.now }
     ensures fits { result < 16 }
@@ -143,67 +134,54 @@ fn scale(fields: &Fields) -> u64
     }
 }
 
-/// The index times its scale, modulo 2^64.
+/// The index.
 #[tactic(auto, unfolding(crate::specs::Address::scaled_index))]
-fn scaled_index(fields: &Fields, gprs: &Gprs, bases: Bases) -> u64
+fn index(fields: &Fields) -> Option<u8>
     requires { fields.now.x < 2 }
-    ensures { result ≡ index_of fields.now gprs.now bases % 2 ^ 64 }
+    ensures index { (gprs : List ℕ) (bases : AnyBases)
+        → index_by result (scale_of fields.now) gprs bases ≡ scaled_index fields.now gprs bases }
+    ensures fits { IndexFits result }
 {
-    if has_sib(fields) && index(fields) != 4 {
-        register(gprs, bases, index(fields)).wrapping_mul(scale(fields))
+    if has_sib(fields) && index_number(fields) != 4 {
+        Some(index_number(fields))
     } else {
-        0
+        None
     }
 }
 
-/// An address as wide as the prefix 67 says.
-pub(crate) fn wrap(fields: &Fields, number: u64) -> u64
-    ensures { result ≡ wrapped fields.now number }
-{
-    if fields.p67 {
-        number % 0x1_0000_0000
-    } else {
-        number
-    }
-}
-
-/// Base, index and displacement: the address within the segment.
-#[tactic(auto, unfolding(crate::specs::Address::offset_of))]
-pub(crate) fn offset(fields: &Fields, disp: i64, gprs: &Gprs, bases: Bases) -> u64
+/// What the address of the operand in memory is made of.
+#[tactic(auto, unfolding(crate::specs::Address::offset_of, crate::specs::Address::address_of, crate::specs::Forms::offset_by, crate::specs::Forms::address_by))]
+pub(crate) fn address_form(fields: &Fields, disp: i64) -> AddressForm
     requires b { fields.now.b < 2 }
     requires x { fields.now.x < 2 }
-    ensures { result ≡ offset_of fields.now disp gprs.now bases }
+    ensures offset { (gprs : List ℕ) (bases : AnyBases) → offset_by result gprs bases ≡ offset_of fields.now disp gprs bases }
+    ensures address { (gprs : List ℕ) (bases : AnyBases) → address_by result gprs bases ≡ address_of fields.now disp gprs bases }
+    ensures wrap32 { result.wrap32 ≡ fields.now.p67 }
+    ensures segment { result.segment ≡ fields.now.segment }
+    ensures fits { AddressFits result }
 {
-    let sum = base(fields, gprs, bases)
-        .wrapping_add(scaled_index(fields, gprs, bases))
-        .wrapping_add(disp.cast_unsigned());
-    wrap(fields, sum)
-}
-
-/// The base of the segment that the prefixes name.
-pub(crate) fn segment_base(fields: &Fields, bases: Bases) -> u64
-    ensures { result ≡ base_of_segment fields.now bases }
-{
-    match fields.segment {
-        0x64 => bases.fs,
-        0x65 => bases.gs,
-        _ => 0,
+    AddressForm {
+        disp: disp.cast_unsigned(),
+        scale: scale(fields),
+        base: base(fields),
+        index: index(fields),
+        wrap32: fields.p67,
+        segment: fields.segment,
     }
 }
 
-/// An address within the segment as an address of memory.
-pub(crate) fn in_segment(fields: &Fields, bases: Bases, offset: u64) -> u64
-    ensures { result ≡ segmented fields.now bases offset }
+/// The same where the address is a number in the code.
+#[tactic(auto, unfolding(crate::specs::Forms::offset_by, crate::specs::Forms::address_by))]
+pub(crate) fn absolute_form(fields: &Fields) -> AddressForm
+    ensures address { (gprs : List ℕ) (bases : AnyBases) → address_by result gprs bases ≡ in_segment fields.now bases fields.now.imm }
+    ensures fits { AddressFits result }
 {
-    offset.wrapping_add(segment_base(fields, bases))
-}
-
-/// The effective address.
-#[tactic(auto, unfolding(crate::specs::Address::address_of))]
-pub(crate) fn address(fields: &Fields, disp: i64, gprs: &Gprs, bases: Bases) -> u64
-    requires b { fields.now.b < 2 }
-    requires x { fields.now.x < 2 }
-    ensures { result ≡ address_of fields.now disp gprs.now bases }
-{
-    in_segment(fields, bases, offset(fields, disp, gprs, bases))
+    AddressForm {
+        disp: fields.imm,
+        scale: 1,
+        base: Base::Nothing,
+        index: None,
+        wrap32: false,
+        segment: fields.segment,
+    }
 }

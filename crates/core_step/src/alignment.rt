@@ -1,16 +1,15 @@
 //! Where an instruction's operand in memory may stand.
-ghost use Rattle.std.specs.Prelude.{◌≡◌, ◌&&◌};
+ghost use Rattle.std.specs.Prelude.{◌≡◌};
 ghost use Rattle.machine_state.specs.Memory.{Swap};
-ghost use Rattle.core_step.specs.Address.{is_memory as names_memory};
-ghost use Rattle.core_step.specs.Vectors.{address_in};
 ghost use Rattle.core_step.specs.Plan.{next_of};
-ghost use Rattle.core_step.specs.Alignment.{breaks as breaks_rule, is_misaligned as is_misaligned_by};
-ghost use Rattle.core_step.specs.Fits.{RegistersFit};
+ghost use Rattle.core_step.specs.Alignment.{breaks as breaks_rule};
+ghost use Rattle.core_step.specs.Forms.{address_in_state, is_misaligned_by, AddressFits, AlignmentFits};
 ghost use Rattle.core_step.specs.Machine.{state_of};
 
-use crate::addressing::is_memory;
+use crate::forms::Alignment;
 use crate::machine::Machine;
-use row_table::{Align, Decoded, Fields, Row, vector_bytes};
+use crate::prepared::Prepared;
+use row_table::{Align, vector_bytes};
 
 // Whether an address isn't the multiple that a rule wants.
 fn breaks(align: Align, l: u8, addr: u64) -> bool
@@ -23,34 +22,27 @@ fn breaks(align: Align, l: u8, addr: u64) -> bool
     }
 }
 
-// Whether ModRM names memory at such an address.
-fn is_broken(align: Align, fields: &Fields, addr: u64) -> bool
-    ensures { result ≡ (breaks_rule align fields.now.l addr && names_memory fields.now) }
-{
-    breaks(align, fields.l, addr) && is_memory(fields)
-}
-
 impl Machine {
-    // Where ModRM's operand in memory stands.
-    fn operand_address(&self, row: &Row, d: &Decoded, len: u8) -> u64
-        requires { RegistersFit d.now.fields }
-        ensures { (w : Swap) → result ≡ address_in row.now d.now (next_of len (state_of self.now w)) (state_of self.now w) }
+    // Whether an operand stands where the rule doesn't let it.
+    fn is_broken(&self, a: &Alignment, len: u8) -> bool
+        requires { AddressFits a.now.address }
+        ensures { (w : Swap) → let s = state_of self.now w in
+            result ≡ breaks_rule a.now.rule a.now.length (address_in_state a.now.address (next_of len s) s) }
     {
-        self.address_in(row, d, self.rip.wrapping_add(len as u64))
+        let addr = self.address_in(&a.address, self.rip.wrapping_add(len as u64));
+        breaks(a.rule, a.length, addr)
     }
 
-    /// Whether ModRM names memory where the row's rule doesn't let it stand.
-    #[tactic(auto, unfolding(crate::specs::Alignment::is_misaligned))]
-    pub(crate) fn is_misaligned(&self, row: &Row, d: &Decoded, len: u8) -> bool
-        requires { RegistersFit d.now.fields }
-        ensures { (w : Swap) → result ≡ is_misaligned_by row.now d.now len (state_of self.now w) }
+    /// Whether the operand in memory stands where its row's rule doesn't let it.
+    #[tactic(auto, unfolding(crate::specs::Forms::is_misaligned_by))]
+    pub(crate) fn is_misaligned(&self, p: &Prepared) -> bool
+        requires { AlignmentFits p.now.alignment }
+        ensures { (w : Swap) → let s = state_of self.now w in
+            result ≡ is_misaligned_by p.now.alignment (next_of p.now.len s) s }
     {
-        match row.align {
-            Align::Free => false,
-            Align::Sixteen | Align::Size => {
-                let addr = self.operand_address(row, d, len);
-                is_broken(row.align, &d.fields, addr)
-            }
+        match &p.alignment {
+            None => false,
+            Some(alignment) => self.is_broken(alignment, p.len),
         }
     }
 }

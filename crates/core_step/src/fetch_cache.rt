@@ -1,9 +1,12 @@
 //! A cache of what was fetched before, known by its bytes.
 ghost use Rattle.std.specs.Prelude.{◌≡◌, ◌<◌, ℕ, length, vec_len, slice_index_or, IfOk, IsTrue};
 ghost use Rattle.form_scan.specs.Shaped.{most_bytes};
-ghost use Rattle.core_step.specs.Fetch.{IsOutcome};
+ghost use Rattle.core_step.specs.Fetch.{IsFetchFit};
+ghost use Rattle.core_step.specs.Kept.{IsKeptOf, IsSighting};
 
 use crate::fetching::{Fetched, fetch_outcome};
+use crate::prepared::Kept;
+use crate::preparing::keep;
 use gpr_flags::Fault;
 use std::alloc::{AllocError, Global};
 use std::marker::Model;
@@ -16,20 +19,21 @@ const ROOM: usize = 4096;
 #[derive(Clone, Copy)]
 struct Sighting {
     bytes: [u8; LIMIT],
-    fetched: Fetched,
+    kept: Kept,
 }
 
 impl Sighting {
     fn of(bytes: &[u8]) -> Sighting
         requires { length bytes.now ≡ most_bytes }
         ensures bytes { result.bytes ≡ bytes.now }
-        ensures fetched { IsOutcome result.bytes result.fetched }
+        ensures kept { IsSighting result.bytes result.kept }
     {
         let mut own = [0; LIMIT];
         own.copy_from_slice(bytes);
+        let fetched = fetch_outcome(decode(&own), None);
         Sighting {
             bytes: own,
-            fetched: fetch_outcome(decode(&own), None),
+            kept: keep(&fetched),
         }
     }
 
@@ -43,9 +47,9 @@ impl Sighting {
     /// Makes it one of these bytes, unless it is one already.
     fn renew(&mut self, bytes: &[u8])
         requires len { length bytes.now ≡ most_bytes }
-        requires fetched { IsOutcome self.old.bytes self.old.fetched }
+        requires kept { IsSighting self.old.bytes self.old.kept }
         ensures bytes { self.new.bytes ≡ bytes.now }
-        ensures fetched { IsOutcome self.new.bytes self.new.fetched }
+        ensures kept { IsSighting self.new.bytes self.new.kept }
     {
         if !self.is_of(bytes) {
             *self = Sighting::of(bytes);
@@ -59,7 +63,7 @@ impl Sighting {
 pub struct FetchCache {
     kept: Vec<Sighting>,
     /// What came of the last fetch of fewer than fifteen bytes.
-    other: Fetched,
+    other: Kept,
 }
 
 impl Model for FetchCache {
@@ -89,26 +93,27 @@ impl FetchCache {
         let kept = copies(alloc, ROOM, Sighting::of(&[0; LIMIT]))?;
         Ok(FetchCache {
             kept,
-            other: Fetched::Trap(Fault::General),
+            other: Kept::Trap(Fault::General),
         })
     }
 
     /// What comes of fifteen bytes that can be executed and stand at the address `at`. The address says where to look for what
     /// came of them before, and nothing more.
-    pub(crate) fn recall(&mut self, at: u64, bytes: &[u8]) -> &Fetched
+    pub(crate) fn recall(&mut self, at: u64, bytes: &[u8]) -> &Kept
         requires { length bytes.now ≡ most_bytes }
-        ensures { IsOutcome bytes.now result.now }
+        ensures { IsSighting bytes.now result.now }
     {
         let sighting = &mut self.kept[(at % ROOM as u64) as usize];
         sighting.renew(bytes);
-        &sighting.fetched
+        &sighting.kept
     }
 
     /// Holds what comes of fewer bytes.
-    pub(crate) fn hold(&mut self, fetched: Fetched) -> &Fetched
-        ensures { result.now ≡ fetched }
+    pub(crate) fn hold(&mut self, fetched: &Fetched) -> &Kept
+        requires { IsFetchFit fetched.now }
+        ensures { IsKeptOf fetched.now result.now }
     {
-        self.other = fetched;
+        self.other = keep(fetched);
         &self.other
     }
 }

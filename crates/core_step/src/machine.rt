@@ -22,6 +22,8 @@ ghost use Rattle.core_step.specs.Pages.{TouchesAtMost, fetch_accesses};
 ghost use Rattle.core_step.specs.Fits.{InstructionFits, PlanFits};
 ghost use Rattle.core_step.specs.Fetch.{NeedsPage, IsFetched, IsFetchFit, fetched};
 ghost use Rattle.core_step.specs.Performed.{IsPerformed};
+ghost use Rattle.core_step.specs.Forms.{IsPrepared};
+ghost use Rattle.core_step.specs.Kept.{fetched_of, IsKeptFit};
 ghost use Rattle.row_table.specs.declared.kinds.Row.{Row as AnyRow};
 ghost use Rattle.core_step.specs.Machine.{IsWhole, IsLeft, IsLocal, IsFramed, accesses, needed, state_of};
 
@@ -30,6 +32,8 @@ use crate::fetch_cache::FetchCache;
 use crate::fetching::{Fetched, fetch_outcome, read_run};
 use crate::kinds::{ClearPlan, Instruction, Outcome, Plan};
 use crate::pair::PairPlan;
+use crate::prepared::{Kept, Prepared};
+use crate::preparing::prepare;
 use crate::results::outcome;
 use crate::strings::StringPlan;
 use crate::values::{move_stack, number_for, put, put_register};
@@ -37,7 +41,7 @@ use crate::walking::answer;
 use gpr_flags::{Fault, Flags, Gprs};
 use guest_pages::Pages;
 use machine_state::Kind;
-use row_table::{Decoded, row};
+use row_table::Decoded;
 use vec_file::VecFile;
 use vec_step::{VectorPlan, clear, perform as perform_vectors};
 use x_decode::{LIMIT, decode};
@@ -74,21 +78,22 @@ impl Machine {
         fetch_outcome(decode(&bytes[..run.count]), run.stop)
     }
 
-    /// The same by a cache, which keeps what came of fetches.
-    pub fn fetch_by<'f>(&self, cache: &'f mut FetchCache) -> &'f Fetched
-        ensures whole { (w : Swap) → IsFetched (state_of self.now w) result.now }
+    /// The same by a cache, which keeps what came of fetches, with instructions prepared to be performed.
+    pub fn fetch_by<'f>(&self, cache: &'f mut FetchCache) -> &'f Kept
+        ensures whole { (w : Swap) → IsFetched (state_of self.now w) (fetched_of result.now) }
         ensures never { (w : Swap) (slot : ℕ) → fetched (state_of self.now w) ≡ Fetched.Need slot → ⊥ }
-        ensures need { (w : Swap) (slot : ℕ) → (result.now ≡ Fetched.Need slot)
+        ensures need { (w : Swap) (slot : ℕ) → (fetched_of result.now ≡ Fetched.Need slot)
             ↔ NeedsPage (table_of self.now.pages) (byte_of self.now.pages w) self.now.rip slot }
-        ensures fits { IsFetchFit result.now }
+        ensures fits { IsFetchFit (fetched_of result.now) }
         ensures few { TouchesAtMost 2 (fetch_accesses self.now.rip) }
+        ensures kept { IsKeptFit result.now }
     {
         let mut bytes = [0; LIMIT];
         let run = read_run(&self.pages, self.rip, &mut bytes);
         if run.count == bytes.len() {
             cache.recall(self.rip, &bytes)
         } else {
-            cache.hold(fetch_outcome(decode(&bytes[..run.count]), run.stop))
+            cache.hold(&fetch_outcome(decode(&bytes[..run.count]), run.stop))
         }
     }
 
@@ -119,11 +124,28 @@ impl Machine {
         // A byte outside of its write accesses stays.
         ensures framed { (w : Swap) → IsFramed d.now len (state_of self.old w) }
     {
-        let row = row(d.row);
-        if self.is_misaligned(&row, d, len) {
+        self.perform_prepared(&prepare(d, len))
+    }
+
+    /// Performs an instruction that is prepared, as `perform` does.
+    pub fn perform_prepared(&mut self, p: &Prepared) -> Acted
+        requires prepared { IsPrepared p.now }
+        requires room { self.old.steps < 2 ^ 64 - 1 }
+        ensures whole { IsWhole p.now.decoded p.now.len self.old self.new result }
+        ensures need { (w : Swap) (slot : ℕ) → (result ≡ Acted.Need slot)
+            ↔ (needed (walk (table_of self.old.pages) (accesses p.now.decoded p.now.len (state_of self.old w))) ≡ Some slot) }
+        ensures pages { KeepsTable self.old.pages self.new.pages }
+        ensures counted { self.new.steps ≡ steps_after result self.old.steps }
+        ensures defined { result ≡ Acted.Trap Fault.Undefined → ⊥ }
+        ensures performed { (r : AnyRow) → slice_get rows p.now.decoded.row ≡ Some r → IsPerformed r }
+        ensures few { (w : Swap) → TouchesAtMost 4 (accesses p.now.decoded p.now.len (state_of self.old w)) }
+        ensures local { (w : Swap) → IsLocal p.now.decoded p.now.len (state_of self.old w) }
+        ensures framed { (w : Swap) → IsFramed p.now.decoded p.now.len (state_of self.old w) }
+    {
+        if self.is_misaligned(p) {
             return Acted::Trap(Fault::General);
         }
-        let plan = self.plan_for(&row, d, len);
+        let plan = self.plan_for(p);
         match self.walk(&plan) {
             Err(stop) => answer(stop),
             Ok(()) => self.finish(&plan),

@@ -1,12 +1,15 @@
 //! An instruction with its operands found.
-ghost use Rattle.std.specs.Prelude.{◌≡◌, ◌<◌};
-ghost use Rattle.core_step.specs.Operands.{general, opmask as opmask_of, immediate_of, operand_at, op_of, prefixed_size as prefixed_size_of, stack_size as stack_size_of, address_size as address_size_of, row_size as row_size_of, scalar_size as scalar_size_of, size_by, letter_size as letter_size_of, part_size as part_size_of, upper_half as upper_half_of, operands_away as operands_away_of, bit_offset as bit_offset_of, bit_operand as bit_operand_of, stack_at, rsp_for};
+ghost use Rattle.std.specs.Prelude.{◌≡◌, ◌<◌, ℕ, List};
+ghost use Rattle.core_step.specs.declared.kinds.Bases.{Bases as AnyBases};
+ghost use Rattle.core_step.specs.Operands.{general, opmask as opmask_of, immediate_of, operand_at, op_of, prefixed_size as prefixed_size_of, stack_size as stack_size_of, address_size as address_size_of, row_size as row_size_of, scalar_size as scalar_size_of, size_by, letter_size as letter_size_of, part_size as part_size_of, upper_half as upper_half_of, operands_away as operands_away_of, bit_offset_by, bit_operand as bit_operand_of, stack_at, rsp_for};
 ghost use Rattle.core_step.specs.Size.{cut as cut_to, sign_extended as sign_extended_from};
-ghost use Rattle.core_step.specs.Address.{address_of};
+ghost use Rattle.core_step.specs.Address.{address_of, in_segment};
 ghost use Rattle.core_step.specs.Fits.{RegistersFit, OperandFits};
+ghost use Rattle.core_step.specs.Forms.{operand_by, OperandFormFits};
 
-use crate::addressing::{address, in_segment, is_memory, offset, opcode_reg, reg, rm, wrap};
-use crate::kinds::{Bases, Breadth, Operand, PartBreadth, StackUse};
+use crate::addressing::{absolute_form, address_form, is_memory, opcode_reg, reg, rm};
+use crate::forms::{BitForm, OperandForm};
+use crate::kinds::{Breadth, Operand, PartBreadth, StackUse};
 use crate::sizes::Size;
 use gpr_flags::{Gprs, RAX, RBP, RCX, RDX, RSP, is_negative};
 use row_table::{CoreOp, Extent, Fields, Layout, Op, Row, Spot};
@@ -43,14 +46,25 @@ fn immediate(fields: &Fields) -> u64
 }
 
 /// Memory in ModRM.r/m as an operand.
-#[inline(never)]
-fn memory(fields: &Fields, disp: i64, gprs: &Gprs, bases: &Bases) -> Operand
+#[tactic(auto, unfolding(crate::specs::Forms::operand_by))]
+fn memory(fields: &Fields, disp: i64) -> OperandForm
     requires x { fields.now.x < 2 }
     requires b { fields.now.b < 2 }
-    ensures operand { result ≡ Operand.Memory (address_of fields.now disp gprs.now bases.now) }
-    ensures fits { OperandFits result }
+    ensures operand { (stack : ℕ) (gprs : List ℕ) (bases : AnyBases)
+        → operand_by result stack gprs bases ≡ Operand.Memory (address_of fields.now disp gprs bases) }
+    ensures fits { OperandFormFits result }
 {
-    Operand::Memory(address(fields, disp, gprs, *bases))
+    OperandForm::Memory(address_form(fields, disp))
+}
+
+/// Memory at an address in the code as an operand.
+#[tactic(auto, unfolding(crate::specs::Forms::operand_by))]
+fn absolute(fields: &Fields) -> OperandForm
+    ensures operand { (stack : ℕ) (gprs : List ℕ) (bases : AnyBases)
+        → operand_by result stack gprs bases ≡ Operand.Memory (in_segment fields.now bases fields.now.imm) }
+    ensures fits { OperandFormFits result }
+{
+    OperandForm::Memory(absolute_form(fields))
 }
 
 /// An opmask as an operand.
@@ -62,54 +76,47 @@ fn opmask(number: u8) -> Operand
 }
 
 /// What stands at a place of a row's list of operands.
-#[inline(always)]
-#[tactic(auto, unfolding(crate::specs::Operands::operand_at))]
-pub(crate) fn operand(
-    spot: Spot,
-    size: Size,
-    fields: &Fields,
-    disp: i64,
-    gprs: &Gprs,
-    bases: &Bases,
-) -> Operand
+#[tactic(auto, unfolding(crate::specs::Operands::operand_at, crate::specs::Forms::operand_by))]
+pub(crate) fn operand(spot: Spot, size: Size, fields: &Fields, disp: i64) -> OperandForm
     requires registers { RegistersFit fields.now }
-    ensures operand { result ≡ operand_at spot size fields.now disp gprs.now bases.now }
-    ensures fits { OperandFits result }
+    ensures operand { (stack : ℕ) (gprs : List ℕ) (bases : AnyBases)
+        → operand_by result stack gprs bases ≡ operand_at spot size fields.now disp gprs bases }
+    ensures fits { OperandFormFits result }
 {
     match spot {
-        Spot::Reg => register(size, fields, reg(fields)),
+        Spot::Reg => OperandForm::Fixed(register(size, fields, reg(fields))),
         Spot::Rm => {
             if is_memory(fields) {
-                memory(fields, disp, gprs, bases)
+                memory(fields, disp)
             } else {
-                register(size, fields, rm(fields))
+                OperandForm::Fixed(register(size, fields, rm(fields)))
             }
         }
-        Spot::Vvvv => register(size, fields, fields.v % 16),
-        Spot::OpcodeReg => register(size, fields, opcode_reg(fields)),
-        Spot::Rax => Operand::Register(RAX),
-        Spot::Cl => Operand::Register(RCX),
-        Spot::Memory => memory(fields, disp, gprs, bases),
-        Spot::Offset => Operand::Memory(in_segment(fields, *bases, fields.imm)),
-        Spot::Immediate => Operand::Number(immediate(fields)),
-        Spot::Relative => Operand::Number(bases.next.wrapping_add(immediate(fields))),
-        Spot::One => Operand::Number(1),
-        Spot::OpmaskReg => opmask(reg(fields)),
+        Spot::Vvvv => OperandForm::Fixed(register(size, fields, fields.v % 16)),
+        Spot::OpcodeReg => OperandForm::Fixed(register(size, fields, opcode_reg(fields))),
+        Spot::Rax => OperandForm::Fixed(Operand::Register(RAX)),
+        Spot::Cl => OperandForm::Fixed(Operand::Register(RCX)),
+        Spot::Memory => memory(fields, disp),
+        Spot::Offset => absolute(fields),
+        Spot::Immediate => OperandForm::Fixed(Operand::Number(immediate(fields))),
+        Spot::Relative => OperandForm::Relative(immediate(fields)),
+        Spot::One => OperandForm::Fixed(Operand::Number(1)),
+        Spot::OpmaskReg => OperandForm::Fixed(opmask(reg(fields))),
         Spot::OpmaskRm => {
             if is_memory(fields) {
-                memory(fields, disp, gprs, bases)
+                memory(fields, disp)
             } else {
-                opmask(rm(fields))
+                OperandForm::Fixed(opmask(rm(fields)))
             }
         }
-        Spot::OpmaskVvvv => opmask(fields.v % 16),
+        Spot::OpmaskVvvv => OperandForm::Fixed(opmask(fields.v % 16)),
         Spot::Absent
         | Spot::VectorMemory
         | Spot::VectorReg
         | Spot::VectorRm
         | Spot::VectorVvvv
         | Spot::VectorImmediate
-        | Spot::Xmm0 => Operand::Absent,
+        | Spot::Xmm0 => OperandForm::Fixed(Operand::Absent),
     }
 }
 
@@ -253,33 +260,29 @@ fn operands_away(size: Size, number: u64) -> u64
 }
 
 /// The same, by the register that has the bit's number.
-#[tactic(auto, unfolding(crate::specs::Operands::bit_offset))]
-fn bit_offset(size: Size, fields: &Fields, gprs: &Gprs) -> u64
-    requires { fields.now.r < 4 }
-    ensures { result ≡ bit_offset_of size fields.now gprs.now }
+pub(crate) fn bit_offset(size: Size, number: u8, gprs: &Gprs) -> u64
+    requires { number < 16 }
+    ensures { result ≡ bit_offset_by size number gprs.now }
 {
-    operands_away(size, sign_extended(size, gprs.get(reg(fields))))
+    operands_away(size, sign_extended(size, gprs.get(number)))
 }
 
-/// The operand that holds the bit whose number is in a register.
-#[inline(never)]
-#[tactic(auto, unfolding(crate::specs::Operands::bit_operand))]
-pub(crate) fn bit_operand(
-    size: Size,
-    fields: &Fields,
-    disp: i64,
-    gprs: &Gprs,
-    bases: Bases,
-) -> Operand
+/// The operand in memory that holds the bit whose number is in a register.
+#[tactic(auto, unfolding(crate::specs::Operands::bit_operand, crate::specs::Forms::operand_by, crate::specs::Forms::bit_by))]
+pub(crate) fn bit_operand(size: Size, fields: &Fields, disp: i64) -> OperandForm
     requires registers { RegistersFit fields.now }
-    ensures operand { result ≡ bit_operand_of size fields.now disp gprs.now bases }
-    ensures fits { OperandFits result }
+    ensures operand { (stack : ℕ) (gprs : List ℕ) (bases : AnyBases)
+        → operand_by result stack gprs bases ≡ bit_operand_of size fields.now disp gprs bases }
+    ensures fits { OperandFormFits result }
 {
     if is_memory(fields) {
-        let place = offset(fields, disp, gprs, bases).wrapping_add(bit_offset(size, fields, gprs));
-        Operand::Memory(in_segment(fields, bases, wrap(fields, place)))
+        OperandForm::Bit(BitForm {
+            address: address_form(fields, disp),
+            size,
+            register: reg(fields),
+        })
     } else {
-        register(size, fields, rm(fields))
+        OperandForm::Fixed(register(size, fields, rm(fields)))
     }
 }
 

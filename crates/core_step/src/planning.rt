@@ -1,35 +1,31 @@
-//! An instruction with its operands found, by the way in which it is performed.
-ghost use Rattle.std.specs.Prelude.{◌≡◌, ◌<◌, ◌≤◌};
+//! An instruction with its operands found in a state, by the way in which it is performed.
+ghost use Rattle.std.specs.Prelude.{◌≡◌, slice_index};
+ghost use Rattle.gpr_flags.specs.Registers.{RSP};
 ghost use Rattle.machine_state.specs.Memory.{Swap};
-ghost use Rattle.core_step.specs.Operands.{rsp_for, instruction_by as instruction_by_roles, instruction_of};
-ghost use Rattle.core_step.specs.Fits.{RegistersFit, InstructionFits, PlanFits};
-ghost use Rattle.core_step.specs.Strings.{strings_of};
-ghost use Rattle.core_step.specs.Pair.{pair_of};
-ghost use Rattle.core_step.specs.Vectors.{address_in, memory_in, places_of, vectors_of};
-ghost use Rattle.core_step.specs.Plan.{plan_of};
-ghost use Rattle.core_step.specs.Performed.{IsPerformed};
+ghost use Rattle.core_step.specs.Operands.{rsp_for};
+ghost use Rattle.core_step.specs.Fits.{InstructionFits, PlanFits};
+ghost use Rattle.core_step.specs.Plan.{next_of};
+ghost use Rattle.core_step.specs.Forms.{plain_by, strings_by, address_by, pair_by, memory_by, places_by, vectors_by, plan_by_form, PlainFormFits, AddressFits, MemoryFits, PlanFormFits};
+ghost use Rattle.core_step.specs.Machine.{state_of};
 ghost use Rattle.vec_units.specs.Form.{IsVectorRow};
 ghost use Rattle.vec_step.specs.Fits.{PlanFits as VectorPlanFits};
-ghost use Rattle.core_step.specs.Machine.{state_of};
 
-use crate::addressing::{address, is_memory, segment_base, vector_reg, vector_rm};
-use crate::kinds::{Bases, ClearPlan, Instruction, Plan, Roles, StackUse};
+use crate::forms::{AddressForm, PairForm, PlainForm, PlanForm, StringForm, VectorForm};
+use crate::kinds::{Bases, ClearPlan, Instruction, Plan, StackUse};
+use crate::locating::segment_base;
 use crate::machine::Machine;
-use crate::operands::{
-    destination_size, operation, part_size, row_size, rsp_in_addresses, stack_place,
-};
+use crate::operands::{rsp_in_addresses, stack_place};
 use crate::pair::PairPlan;
-use crate::resolving::{operand_for, operand_if_any};
-use crate::roles::roles;
+use crate::prepared::Prepared;
 use crate::sizes::Size;
-use crate::strings::{Repeat, StringPlan};
-use crate::ways::Way;
-use row_table::{Decoded, Layout, Op, Row, StringOp, layout};
+use crate::strings::StringPlan;
+use row_table::Fields;
 use vec_step::{Places, VectorPlan, plan};
 
 impl Machine {
     // What addresses are made of.
-    pub(crate) fn bases(&self, stack: StackUse, size: Size, next: u64) -> Bases
+    #[inline(always)]
+    fn bases(&self, stack: StackUse, size: Size, next: u64) -> Bases
         ensures { result ≡ record { rsp = rsp_for stack size self.now.gprs; next = next; fs = self.now.fs; gs = self.now.gs } }
     {
         Bases {
@@ -40,178 +36,127 @@ impl Machine {
         }
     }
 
-    // The instruction of a row and its fields.
-    #[tactic(auto, unfolding(crate::specs::Operands::instruction_of))]
-    fn instruction(&self, row: &Row, d: &Decoded, next: u64) -> Instruction
-        requires { RegistersFit d.now.fields }
-        ensures is { (w : Swap) → result ≡ instruction_of row.now d.now next (state_of self.now w) }
-        ensures fits { InstructionFits result }
+    // The address in an instruction that leaves the stack alone.
+    pub(crate) fn address_in(&self, address: &AddressForm, next: u64) -> u64
+        requires { AddressFits address.now }
+        ensures { result ≡ address_by address.now self.now.gprs
+            (record { rsp = slice_index self.now.gprs RSP; next = next; fs = self.now.fs; gs = self.now.gs }) }
     {
-        let layout = layout(row.operands);
-        let op = operation(row, &layout, &d.fields);
-        let roles = roles(op, &layout);
-        let own = row_size(row, &d.fields);
-        let size = destination_size(roles.breadth, row, &d.fields);
-        self.instruction_by(op, &roles, &layout, own, size, d, next)
+        let bases = self.bases(StackUse::Aside, Size::Quad, next);
+        address.address(&self.gprs, &bases)
     }
 
-    // The instruction of an operation with these roles, whose row has the size `own` and whose destination has the other.
-    #[tactic(auto, unfolding(crate::specs::Operands::instruction_by))]
-    fn instruction_by(
-        &self,
-        op: Op,
-        roles: &Roles,
-        layout: &Layout,
-        own: Size,
-        size: Size,
-        d: &Decoded,
-        next: u64,
-    ) -> Instruction
-        requires { RegistersFit d.now.fields }
-        ensures is { (w : Swap) → result ≡ instruction_by_roles op roles.now layout.now own size d.now next
-            (state_of self.now w) }
+    // An instruction on numbers.
+    #[inline(always)]
+    #[tactic(auto, unfolding(crate::specs::Forms::plain_by))]
+    fn instruction(&self, f: &PlainForm, next: u64) -> Instruction
+        requires { PlainFormFits f.now }
+        ensures is { (w : Swap) → result ≡ plain_by f.now next (state_of self.now w) }
         ensures fits { InstructionFits result }
     {
-        let stack = stack_place(roles.stack, size, &self.gprs);
-        let bases = self.bases(roles.stack, size, next);
-        let source_size = part_size(roles.source_breadth, layout.second.size, own, size);
-        let beside_size = part_size(roles.beside_breadth, layout.third.size, own, size);
+        let stack = stack_place(f.stack, f.size, &self.gprs);
+        let bases = self.bases(f.stack, f.size, next);
         Instruction {
-            destination: operand_for(
-                roles.destination,
-                size,
-                layout,
-                d,
-                stack,
-                &self.gprs,
-                &bases,
-            ),
-            source: operand_for(
-                roles.source,
-                source_size,
-                layout,
-                d,
-                stack,
-                &self.gprs,
-                &bases,
-            ),
-            beside: operand_if_any(
-                roles.beside,
-                beside_size,
-                layout,
-                d,
-                stack,
-                &self.gprs,
-                &bases,
-            ),
-            also: operand_if_any(roles.also, size, layout, d, stack, &self.gprs, &bases),
+            destination: f.destination.resolve(stack, &self.gprs, &bases),
+            source: f.source.resolve(stack, &self.gprs, &bases),
+            beside: f.beside.resolve(stack, &self.gprs, &bases),
+            also: f.also.resolve(stack, &self.gprs, &bases),
             stack,
-            freed: d.fields.imm,
+            freed: f.freed,
             rip: self.rip,
             next,
-            op,
-            size,
-            source_size,
-            beside_size,
-            usage: roles.usage,
-            condition: d.fields.opcode % 16,
+            op: f.op,
+            size: f.size,
+            source_size: f.source_size,
+            beside_size: f.beside_size,
+            usage: f.usage,
+            condition: f.condition,
         }
     }
 
-    // The instruction on strings of a row and its fields.
-    #[tactic(auto, unfolding(crate::specs::Strings::strings_of))]
-    fn on_strings(&self, op: StringOp, row: &Row, d: &Decoded, next: u64) -> StringPlan
-        ensures { (w : Swap) → result ≡ strings_of op row.now d.now next (state_of self.now w) }
+    // An instruction on strings.
+    #[tactic(auto, unfolding(crate::specs::Forms::strings_by))]
+    fn on_strings(&self, f: &StringForm, next: u64) -> StringPlan
+        ensures { (w : Swap) → result ≡ strings_by f.now next (state_of self.now w) }
     {
-        let size = row_size(row, &d.fields);
-        let bases = self.bases(StackUse::Aside, size, next);
+        let bases = self.bases(StackUse::Aside, Size::Quad, next);
         StringPlan {
-            op,
-            size,
-            wrap32: d.fields.p67,
-            base: segment_base(&d.fields, bases),
-            repeat: Repeat::by_prefix(&d.fields),
+            op: f.op,
+            size: f.size,
+            wrap32: f.wrap32,
+            base: segment_base(f.segment, &bases),
+            repeat: f.repeat,
             next,
         }
     }
 
-    // CMPXCHG8B or CMPXCHG16B by its row and fields.
-    #[tactic(auto, unfolding(crate::specs::Pair::pair_of))]
-    fn on_pair(&self, row: &Row, d: &Decoded, next: u64) -> PairPlan
-        requires { RegistersFit d.now.fields }
-        ensures { (w : Swap) → result ≡ pair_of row.now d.now next (state_of self.now w) }
+    // CMPXCHG8B or CMPXCHG16B.
+    #[tactic(auto, unfolding(crate::specs::Forms::pair_by))]
+    fn on_pair(&self, f: &PairForm, next: u64) -> PairPlan
+        requires { AddressFits f.now.address }
+        ensures { (w : Swap) → result ≡ pair_by f.now next (state_of self.now w) }
     {
-        let half = PairPlan::half_by(row);
-        let bases = self.bases(StackUse::Aside, half, next);
         PairPlan {
-            half,
-            addr: address(&d.fields, d.disp, &self.gprs, bases),
+            half: f.half,
+            addr: self.address_in(&f.address, next),
             next,
         }
     }
 
-    // The address that ModRM names, in an instruction that leaves the stack alone.
-    pub(crate) fn address_in(&self, row: &Row, d: &Decoded, next: u64) -> u64
-        requires { RegistersFit d.now.fields }
-        ensures { (w : Swap) → result ≡ address_in row.now d.now next (state_of self.now w) }
+    // The address of an operand, if it is in memory.
+    fn memory_in(&self, memory: &Option<AddressForm>, next: u64) -> Option<u64>
+        requires { MemoryFits memory.now }
+        ensures { (w : Swap) → result ≡ memory_by memory.now next (state_of self.now w) }
     {
-        let bases = self.bases(StackUse::Aside, row_size(row, &d.fields), next);
-        address(&d.fields, d.disp, &self.gprs, bases)
-    }
-
-    // The same, if ModRM names memory.
-    fn memory_in(&self, row: &Row, d: &Decoded, next: u64) -> Option<u64>
-        requires { RegistersFit d.now.fields }
-        ensures { (w : Swap) → result ≡ memory_in row.now d.now next (state_of self.now w) }
-    {
-        if is_memory(&d.fields) {
-            Some(self.address_in(row, d, next))
-        } else {
-            None
+        match memory {
+            Some(address) => Some(self.address_in(address, next)),
+            None => None,
         }
     }
 
-    // What ModRM and vvvv name.
-    fn places(&self, row: &Row, d: &Decoded, next: u64) -> Places
-        requires { RegistersFit d.now.fields }
-        ensures { (w : Swap) → result ≡ places_of row.now d.now next (state_of self.now w) }
+    // What an instruction on vectors names.
+    fn places(&self, f: &VectorForm, next: u64) -> Places
+        requires { MemoryFits f.now.memory }
+        ensures { (w : Swap) → result ≡ places_by f.now next (state_of self.now w) }
     {
         Places {
-            reg: vector_reg(&d.fields),
-            vvvv: d.fields.v,
-            rm: vector_rm(&d.fields),
-            memory: self.memory_in(row, d, next),
+            reg: f.reg,
+            vvvv: f.vvvv,
+            rm: f.rm,
+            memory: self.memory_in(&f.memory, next),
         }
     }
 
-    // The instruction on vectors of a row and its fields.
-    #[tactic(auto, unfolding(crate::specs::Vectors::vectors_of))]
-    fn on_vectors(&self, row: &Row, d: &Decoded, next: u64) -> VectorPlan
-        requires registers { RegistersFit d.now.fields }
-        requires row { IsVectorRow row.now }
-        ensures is { (w : Swap) → result ≡ vectors_of row.now d.now next (state_of self.now w) }
+    // An instruction on vectors.
+    #[tactic(auto, unfolding(crate::specs::Forms::vectors_by))]
+    fn on_vectors(&self, f: &VectorForm, fields: &Fields, next: u64) -> VectorPlan
+        requires row { IsVectorRow f.now.row }
+        requires memory { MemoryFits f.now.memory }
+        ensures is { (w : Swap) → result ≡ vectors_by f.now fields.now next (state_of self.now w) }
         ensures fits { VectorPlanFits result }
     {
-        let places = self.places(row, d, next);
-        plan(row, &d.fields, &places, next, &self.vec)
+        let places = self.places(f, next);
+        plan(&f.row, fields, &places, next, &self.vec)
     }
 
-    // The instruction of a row and its fields, by the way in which it is performed.
-    #[inline(never)]
-    #[tactic(auto, unfolding(crate::specs::Plan::plan_of))]
-    pub(crate) fn plan_for(&self, row: &Row, d: &Decoded, len: u8) -> Plan
-        requires registers { RegistersFit d.now.fields }
-        requires performed { IsPerformed row.now }
-        ensures is { (w : Swap) → result ≡ plan_of row.now d.now len (state_of self.now w) }
+    // An instruction by the way in which it is performed.
+    #[inline(always)]
+    pub(crate) fn plan_for(&self, p: &Prepared) -> Plan
+        requires { PlanFormFits p.now.form }
+        ensures is { (w : Swap) → let s = state_of self.now w in
+            result ≡ plan_by_form p.now.form p.now.decoded.fields (next_of p.now.len s) s }
         ensures fits { PlanFits result }
     {
-        let next = self.rip.wrapping_add(len as u64);
-        match Way::of(row.op) {
-            Way::Numbers => Plan::Plain(self.instruction(row, d, next)),
-            Way::Strings(op) => Plan::OnStrings(self.on_strings(op, row, d, next)),
-            Way::Pair => Plan::OnPair(self.on_pair(row, d, next)),
-            Way::Vectors => Plan::OnVectors(self.on_vectors(row, d, next)),
-            Way::Clears(clearing) => Plan::Clears(ClearPlan { clearing, next }),
+        let next = self.rip.wrapping_add(p.len as u64);
+        match &p.form {
+            PlanForm::Plain(f) => Plan::Plain(self.instruction(f, next)),
+            PlanForm::OnStrings(f) => Plan::OnStrings(self.on_strings(f, next)),
+            PlanForm::OnPair(f) => Plan::OnPair(self.on_pair(f, next)),
+            PlanForm::OnVectors(f) => Plan::OnVectors(self.on_vectors(f, &p.decoded.fields, next)),
+            PlanForm::Clears(clearing) => Plan::Clears(ClearPlan {
+                clearing: *clearing,
+                next,
+            }),
         }
     }
 }

@@ -1,7 +1,7 @@
 mod processor;
 mod vectors;
 
-use crate::{Acted, Fault, FetchCache, Fetched, Flags, Gprs, Machine, Pages, Perms, VecFile};
+use crate::{Acted, Fault, FetchCache, Fetched, Flags, Gprs, Kept, Machine, Pages, Perms, VecFile};
 use machine_state::{Kind, PAGE_SIZE};
 use processor::{Row, State};
 use std::alloc::Global;
@@ -447,7 +447,7 @@ fn changed_code_is_fetched_anew(rt: HostRuntime) -> Result<(), Fail> {
         assert_eq!(rt; m.pages.write(CODE + 0x101, &[number]), Ok(()));
         assert!(rt; m.steps < 100);
         match m.fetch_by(&mut cache) {
-            Fetched::Instr(d, len) => assert_eq!(rt; m.perform(d, *len), Acted::Done),
+            Kept::Instr(p) => assert_eq!(rt; m.perform_prepared(p), Acted::Done),
             _ => panic!(rt; "no instruction"),
         }
         assert_eq!(rt; m.gprs.get(0) % 0x100, u64::from(number));
