@@ -1,9 +1,8 @@
 //! Whole steps, and runs of them.
 ghost use Rattle.std.specs.Prelude.{◌≡◌, ◌<◌, ◌≤◌, ◌+◌, ◌-◌, ◌^◌, Some, is_some};
 ghost use Rattle.guest_pages.specs.Changes.{AllResident};
-ghost use Rattle.form_scan.specs.Shaped.{most_bytes};
-ghost use Rattle.x_decode.specs.Seeing.{IsDecoded};
 ghost use Rattle.core_step.specs.Act.{performed};
+ghost use Rattle.core_step.specs.Forms.{IsPrepared};
 ghost use Rattle.guest_run.specs.Step.{step, after_part, calls_in_step, calls_after_part, signal_of as signal_of_fault};
 ghost use Rattle.guest_run.specs.Following.{IsStep, RunsAs, WorksAs, run_end as run_end_spec, guest_end as guest_end_of, sinks};
 ghost use Rattle.guest_run.specs.Guests.{GuestRunsAs, IsGuest};
@@ -11,7 +10,7 @@ ghost use Rattle.guest_run.specs.Guests.{GuestRunsAs, IsGuest};
 use crate::calls::answer_call;
 use crate::ends::RunEnd;
 use crate::guest::Guest;
-use core_step::{Acted, Decoded, FetchCache, Fetched, Machine};
+use core_step::{Acted, FetchCache, Kept, Machine, Prepared};
 use gpr_flags::Fault;
 use host_edge::{HostCall, Sink};
 use machine_state::GuestEnd;
@@ -38,26 +37,24 @@ fn kill(machine: &mut Machine, fault: Fault) -> GuestEnd
     GuestEnd::Killed(signal_of(fault))
 }
 
-/// Performs an instruction of so many bytes, with its system call's answer, or ends the guest by its fault's signal.
+/// Performs an instruction, with its system call's answer, or ends the guest by its fault's signal.
 fn perform<O: Sink, E: Sink>(
     machine: &mut Machine,
-    d: &Decoded,
-    len: u8,
+    instruction: &Prepared,
     out: &mut O,
     err: &mut E,
 ) -> Result<Option<GuestEnd>, HostCall>
-    requires spells { IsDecoded d.now.fields d.now }
-    requires some { 1 ≤ len }
-    requires most { len ≤ most_bytes }
+    requires fits { IsPrepared instruction.now }
     requires room { machine.old.steps < 2 ^ 64 - 1 }
     requires resident { AllResident machine.old.pages }
-    ensures works { WorksAs (λ w. after_part (performed d.now len w.state) w) (λ w. calls_after_part (performed d.now len w.state) w)
+    ensures works { WorksAs (λ w. after_part (performed instruction.now.decoded instruction.now.len w.state) w)
+        (λ w. calls_after_part (performed instruction.now.decoded instruction.now.len w.state) w)
         machine.old machine.new
         (sinks (O.taken out.old) (O.faults out.old) (E.taken err.old) (E.faults err.old))
         (sinks (O.taken out.new) (O.faults out.new) (E.taken err.new) (E.faults err.new)) result }
     ensures is_step { IsStep machine.old machine.new }
 {
-    match machine.perform(d, len) {
+    match machine.perform_prepared(instruction) {
         Acted::Done => Ok(None),
         Acted::Call => {
             let end = answer_call(machine, out, err);
@@ -84,9 +81,9 @@ fn turn<O: Sink, E: Sink>(
     ensures is_step { IsStep machine.old machine.new }
 {
     match machine.fetch_by(cache) {
-        Fetched::Instr(d, len) => perform(machine, d, *len, out, err),
-        Fetched::Trap(fault) => Ok(Some(kill(machine, *fault))),
-        Fetched::Need(_) => unreachable!(),
+        Kept::Instr(instruction) => perform(machine, instruction, out, err),
+        Kept::Trap(fault) => Ok(Some(kill(machine, *fault))),
+        Kept::Need(_) => unreachable!(),
     }
 }
 

@@ -1,4 +1,4 @@
-use Rattle.std.proofs.Common.{◌≡◌, ◌∙◌, ◌+◌, ◌/◌, sym, subst, List, Some, Ok, []}
+use Rattle.std.proofs.Common.{◌≡◌, ◌∙◌, ◌+◌, ◌/◌, ap, sym, subst, List, Some, Ok, []}
 use Rattle.machine_state.specs.Memory.{page_size}
 use Rattle.machine_state.specs.State.{State}
 use Rattle.machine_state.specs.declared.kinds.GuestEnd.TheVariants.{Killed}
@@ -6,6 +6,7 @@ use Rattle.host_edge.specs.declared.outside.HostCall.{HostCall}
 use Rattle.core_step.specs.declared.fetching.Fetched.{Fetched}
 use Rattle.core_step.specs.declared.fetching.Fetched.TheVariants.{Instr, Trap}
 use Rattle.core_step.specs.Fetch.{IsFetched}
+use Rattle.core_step.specs.Kept.{fetched_of}
 use Rattle.core_step.specs.Act.{performed, trapped}
 use Rattle.core_step.specs.Machine.{state_of}
 use Rattle.core_step.proofs.FetchLemmas.{act-fetched}
@@ -20,7 +21,7 @@ use Rattle.guest_run.proofs.running.turn.Goals as goal
 -- no page is away
 pub unreachable-requires : goal.unreachable-requires
 unreachable-requires g c =
-    let needed = (c.fetch_by.ensures.need (λ page. []) c.in-Need.field-0).0 c.in-Need.is in
+    let needed = (c.fetch_by.ensures.need (λ page. []) c.in-Need.field-0).0 (ap fetched_of c.in-Need.is) in
     let away = sym (c.requires.resident ((c.args.machine.now.rip + needed.count) / page_size)) ∙ needed.away in
     cc
 
@@ -34,9 +35,9 @@ returns-in-Instr-clause-works g c = record {
       by_part
       (λ (to : Ran) (calls : List HostCall). Follows (IsOutside held left (g.O.Sink.taken c.perform.new.out) (g.E.Sink.taken c.perform.new.err)) swap
       c.perform.new.machine files from to calls c.perform.result)
-      from (performed c.in-Instr.d c.in-Instr.len from.state)
-      (act-fetched from.state (Instr c.in-Instr.d c.in-Instr.len)
-      (fetched_from (state_of c.args.machine.now swap) from.state _ _ (c.fetch_by.ensures.whole swap) stands.state c.in-Instr.is))
+      from (performed c.in-Instr.instruction.decoded c.in-Instr.instruction.len from.state)
+      (act-fetched from.state (Instr c.in-Instr.instruction.decoded c.in-Instr.instruction.len)
+      (fetched_from (state_of c.args.machine.now swap) from.state _ _ (c.fetch_by.ensures.whole swap) stands.state (ap fetched_of c.in-Instr.is)))
       (c.perform.ensures.works.follows swap held left files from stands);
   course = c.perform.ensures.works.course;
   signal = c.perform.ensures.works.signal;
@@ -51,7 +52,7 @@ returns-in-Trap-clause-works g c = record {
       (record c.args.machine.now { steps = c.args.machine.now.steps + 1 }) files from to calls (Ok (Some (Killed (signal_of c.in-Trap.fault)))))
       from (trapped c.in-Trap.fault from.state)
       (act-fetched from.state (Trap c.in-Trap.fault)
-      (fetched_from (state_of c.args.machine.now swap) from.state _ _ (c.fetch_by.ensures.whole swap) stands.state c.in-Trap.is))
+      (fetched_from (state_of c.args.machine.now swap) from.state _ _ (c.fetch_by.ensures.whole swap) stands.state (ap fetched_of c.in-Trap.is)))
       (follows-killed _ swap files from from.state c.args.machine.now _ stands.descriptors stands.outside_is stands.state));
   course = course-none _;
   signal = rw c.kill.ensures.end (signal_of-most c.in-Trap.fault);
