@@ -1,3 +1,4 @@
 pub mod Rooms
 pub mod Memories
 pub mod Brings
+pub mod Trials
