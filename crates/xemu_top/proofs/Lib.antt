@@ -1,3 +1,4 @@
+mod Examples
 pub mod LineLemmas
 pub mod TopLemmas
 pub mod TrailLemmas

@@ -218,8 +218,11 @@ module _ (wanted : Bool) (budget : ℕ) (from : World) (on : Outside) (machine :
         stands = λ other h.
             let same : call ≡ other = cc in
             subst (λ (c : HostCall). Leaves (Beside held left last) (FailsOn pieces c)) same
-            (record { now = failed.now; stands = failed.stands;
-              may = behind_run call line failed.now own_run.0 text failed.may });
+            (record {
+              now = failed.now;
+              stands = failed.stands;
+              may = behind_run call line failed.now own_run.0 text failed.may;
+            });
         nothing = λ h. cc;
       }
 
@@ -370,8 +373,11 @@ module _ (words : List (List ℕ)) (spoken : Command) (on : Outside) (Stands : O
     gives = image.gives;
     stands = λ call h.
         let left = image.stands call h in
-        record { now = left.now; stands = left.stands;
-          may = fails-later (load_piece spoken on) (image_trail words spoken bytes (image_read bytes spoken.pages) on) call left.now left.may };
+        record {
+          now = left.now;
+          stands = left.stands;
+          may = fails-later (load_piece spoken on) (image_trail words spoken bytes (image_read bytes spoken.pages) on) call left.now left.may;
+        };
     nothing = image.nothing;
   })
 

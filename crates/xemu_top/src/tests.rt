@@ -47,10 +47,27 @@ const WIDE: Room<'static> = Room {
     fail: &[],
 };
 
+fn strings(alloc: Global, texts: &[&str]) -> Result<Vec<String>, AllocError> {
+    let mut strings = Vec::new(alloc);
+    for text in texts {
+        strings.push(String::from_str(alloc, text)?)?;
+    }
+    Ok(strings)
+}
+
+/// A word of so many bytes.
+fn long_word(alloc: Global, count: usize) -> Result<String, AllocError> {
+    let mut word = String::new(alloc);
+    for _ in 0..count {
+        word.push('x')?;
+    }
+    Ok(word)
+}
+
 /// Runs a command on a host with one file, `hello`, and sinks with these rooms.
 fn run_command(
     alloc: Global,
-    words: [&str; 2],
+    words: &[&str],
     bytes: &[u8],
     out: Room,
     err: Room,
@@ -60,10 +77,7 @@ fn run_command(
     let mut input = MemSource::new(alloc, b"unread", 3, &[])?;
     let mut out = MemSink::new(alloc, out.bytes, out.fail)?;
     let mut err = MemSink::new(alloc, err.bytes, err.fail)?;
-    let words = vec![in alloc;
-        String::from_str(alloc, words[0])?,
-        String::from_str(alloc, words[1])?,
-    ]?;
+    let words = strings(alloc, words)?;
     let ended = emulate(alloc, &words, &mut host, &mut input, &mut out, &mut err);
     Ok(Left { ended, out, err })
 }
@@ -145,18 +159,12 @@ fn hello_prints_and_exits_and_its_variants_end_as_they_should(rt: HostRuntime) -
     let hello: &[(usize, u8)] = &[];
     let unsupported: &[(usize, u8)] = &[(120, 0x0F), (121, 0x58), (122, 0xC1)];
     let other_call: &[(usize, u8)] = &[(121, 7)];
-    let core_file: &[(usize, u8)] = &[(16, 4)];
-    let no_image = End::Image(ImageFault {
-        number: 15,
-        place: 0,
-    });
     for (changes, end, status, text, steps) in [
         (hello, End::Exit(0), 0, "hello\n", Some(8)),
         (unsupported, End::Killed(4), 132, "", Some(1)),
         (other_call, End::Exit(0), 0, "", Some(8)),
-        (core_file, no_image, 65, "", None),
     ] {
-        let left = run_command(alloc, ["run", "hello"], &hello_with(changes), WIDE, WIDE)?;
+        let left = run_command(alloc, &["run", "hello"], &hello_with(changes), WIDE, WIDE)?;
         assert_eq!(rt; left.ended.end, end);
         assert_eq!(rt; left.ended.status, status);
         assert_eq!(rt; left.out.bytes(), text.as_bytes());
@@ -200,10 +208,10 @@ fn code_ends_as_it_should(rt: HostRuntime) -> Result<(), Fail> {
             136,
             4,
         ),
-        // int3; hlt; ret, with no stack; fifteen prefixes
+        // int3; hlt; ret, to the argument count; fifteen prefixes
         (&[0xCC], End::Killed(5), 133, 1),
         (&[0xF4], End::Killed(11), 139, 1),
-        (&[0xF3, 0xC3], End::Killed(11), 139, 1),
+        (&[0xF3, 0xC3], End::Killed(11), 139, 2),
         (&[0x66; 15], End::Killed(11), 139, 1),
         // a byte from address 0 is written: EFAULT
         (&write_code(1, 1), End::Exit(14), 14, 9),
@@ -224,7 +232,7 @@ fn code_ends_as_it_should(rt: HostRuntime) -> Result<(), Fail> {
         (&write_code(1, 0), End::Exit(0), 0, 9),
     ];
     for (code, end, status, steps) in rows {
-        let left = run_command(alloc, ["run", "hello"], &with_code(code), WIDE, WIDE)?;
+        let left = run_command(alloc, &["run", "hello"], &with_code(code), WIDE, WIDE)?;
         assert_eq!(rt; left.ended.end, end);
         assert_eq!(rt; left.ended.status, status);
         assert_eq!(rt; left.out.bytes().len(), 0);
@@ -250,43 +258,188 @@ fn a_fault_leaves_the_registers(rt: HostRuntime) -> Result<(), Fail> {
         (&[0x31, 0xC9, 0xF7, 0xF1], [0x40_007A, 0, 0, 0x246]),
     ];
     for (code, registers) in rows {
-        let left = run_command(rt.alloc(), ["run", "hello"], &with_code(code), WIDE, WIDE)?;
+        let left = run_command(rt.alloc(), &["run", "hello"], &with_code(code), WIDE, WIDE)?;
         assert_eq!(rt; registers_of(&left.ended), Some(registers));
     }
     Ok(())
 }
 
+/// A command line with what its end is and what it puts: on the sample program, cut to so many bytes.
+#[derive(Clone, Copy)]
+struct CommandRow {
+    words: &'static [&'static str],
+    len: usize,
+    end: End,
+    status: u8,
+    out: &'static str,
+    err: &'static str,
+}
+
+fn words_row(words: &'static [&'static str], word: u32, kind: u8, err: &'static str) -> CommandRow {
+    CommandRow {
+        words,
+        len: 159,
+        end: End::Words(WordFault { word, kind }),
+        status: 64,
+        out: "",
+        err,
+    }
+}
+
+fn image_row(len: usize, number: u8, place: u64, err: &'static str) -> CommandRow {
+    CommandRow {
+        words: &["run", "hello"],
+        len,
+        end: End::Image(ImageFault { number, place }),
+        status: 65,
+        out: "",
+        err,
+    }
+}
+
+fn run_row(
+    words: &'static [&'static str],
+    end: End,
+    status: u8,
+    out: &'static str,
+    err: &'static str,
+) -> CommandRow {
+    CommandRow {
+        words,
+        len: 159,
+        end,
+        status,
+        out,
+        err,
+    }
+}
+
 #[test]
-fn words_that_do_not_fit_and_a_missing_file_are_refused(rt: HostRuntime) -> Result<(), Fail> {
+fn commands_end_and_say_what_they_should(rt: HostRuntime) -> Result<(), Fail> {
     let alloc = rt.alloc();
-    let no_command = End::Words(WordFault { word: 0, kind: 15 });
-    for (words, end, status) in [
-        (["walk", "hello"], no_command, 64),
-        (["run", "--help"], no_command, 64),
-        (["run", ""], no_command, 64),
-        (["run", "none"], End::Host(HostCall::Load(1)), 74),
+    let missing = End::Host(HostCall::Load(1));
+    for row in [
+        words_row(&[], 0, 1, "xemu: words 0 1\n"),
+        words_row(&["walk", "hello"], 0, 1, "xemu: words 0 1\n"),
+        words_row(&["run", "--fast", "hello"], 1, 2, "xemu: words 1 2\n"),
+        words_row(&["run", "--budget"], 2, 3, "xemu: words 2 3\n"),
+        words_row(
+            &["run", "--budget", "07", "hello"],
+            2,
+            4,
+            "xemu: words 2 4\n",
+        ),
+        words_row(
+            &["run", "--pages", "511", "hello"],
+            2,
+            4,
+            "xemu: words 2 4\n",
+        ),
+        words_row(
+            &["run", "--report", "--report", "hello"],
+            2,
+            5,
+            "xemu: words 2 5\n",
+        ),
+        words_row(&["run", ""], 1, 6, "xemu: words 1 6\n"),
+        words_row(&["run", "--report"], 2, 7, "xemu: words 2 7\n"),
+        words_row(&["run", "hello", "\0"], 2, 12, "xemu: words 2 12\n"),
+        image_row(0, 1, 0, "xemu: image 1 at 0\n"),
+        image_row(63, 1, 63, "xemu: image 1 at 63\n"),
+        image_row(119, 10, 32, "xemu: image 10 at 32\n"),
+        image_row(158, 12, 96, "xemu: image 12 at 96\n"),
+        run_row(&["run", "hello"], End::Exit(0), 0, "hello\n", ""),
+        run_row(&["run", "none"], missing, 74, "", ""),
+        run_row(
+            &["run", "--budget", "3", "--report", "hello"],
+            End::Budget,
+            75,
+            "",
+            "xemu: budget 3\n",
+        ),
+        run_row(
+            &["run", "--budget", "7", "hello"],
+            End::Budget,
+            75,
+            "hello\n",
+            "",
+        ),
+        run_row(
+            &[
+                "run", "--budget", "8", "--report", "--pages", "512", "--seed", "1", "hello",
+            ],
+            End::Exit(0),
+            0,
+            "hello\n",
+            "xemu: exit 0 steps 8\n",
+        ),
     ] {
-        let left = run_command(alloc, words, &HELLO, WIDE, WIDE)?;
-        assert_eq!(rt; left.ended.end, end);
-        assert_eq!(rt; left.ended.status, status);
-        assert_eq!(rt; left.out.bytes().len(), 0);
-        assert_eq!(rt; steps_of(&left.ended), None);
+        let len = row.len.min(HELLO.len());
+        let left = run_command(alloc, row.words, &HELLO[..len], WIDE, WIDE)?;
+        assert_eq!(rt; left.ended.end, row.end);
+        assert_eq!(rt; left.ended.status, row.status);
+        assert_eq!(rt; left.out.bytes(), row.out.as_bytes());
+        assert_eq!(rt; left.err.bytes(), row.err.as_bytes());
     }
     Ok(())
 }
 
 #[test]
-fn a_file_of_two_pages_that_is_no_image_is_refused(rt: HostRuntime) -> Result<(), Fail> {
-    let mut file = two_pages(rt.alloc())?;
-    file.push(0)?;
-    let left = run_command(rt.alloc(), ["run", "hello"], &file, WIDE, WIDE)?;
-    let no_image = End::Image(ImageFault {
-        number: 15,
-        place: 0,
-    });
-    assert_eq!(rt; left.ended.end, no_image);
+fn a_start_stack_that_is_too_long_is_refused(rt: HostRuntime) -> Result<(), Fail> {
+    let word = long_word(rt.alloc(), 131_072)?;
+    let left = run_command(
+        rt.alloc(),
+        &["run", "hello", word.as_str()],
+        &HELLO,
+        WIDE,
+        WIDE,
+    )?;
+    assert_eq!(rt; left.ended.end, End::Start(TooLong { size: 131_488 }));
     assert_eq!(rt; left.ended.status, 65);
-    assert_eq!(rt; left.out.bytes().len(), 0);
+    assert_eq!(rt; left.err.bytes(), "xemu: start 131488\n".as_bytes());
+    Ok(())
+}
+
+/// Each row has the code, the words and the exit status: the number of arguments, the first byte of the first environment text, the
+/// low byte of the stack pointer, and of the stack pointer with an argument of 16 bytes more.
+#[test]
+fn a_program_sees_its_start_stack(rt: HostRuntime) -> Result<(), Fail> {
+    // mov edi, [rsp]; mov eax, 60; syscall
+    let count: &[u8] = &[0x8B, 0x3C, 0x24, 0xB8, 60, 0, 0, 0, 0x0F, 5];
+    // mov rax, [rsp + 24]; movzx edi, byte [rax]; mov eax, 60; syscall
+    let env: &[u8] = &[
+        0x48, 0x8B, 0x44, 0x24, 24, 0x0F, 0xB6, 0x38, 0xB8, 60, 0, 0, 0, 0x0F, 5,
+    ];
+    // mov edi, esp; mov eax, 60; syscall
+    let pointer: &[u8] = &[0x89, 0xE7, 0xB8, 60, 0, 0, 0, 0x0F, 5];
+    let rows: [(&[u8], &[&str], u8); 4] = [
+        (count, &["run", "hello", "a", "bc"], 3),
+        (env, &["run", "--env", "Ab=c", "--env", "D", "hello"], 65),
+        (pointer, &["run", "hello"], 0x70),
+        (pointer, &["run", "hello", "0123456"], 0x60),
+    ];
+    for (code, words, status) in rows {
+        let left = run_command(rt.alloc(), words, &with_code(code), WIDE, WIDE)?;
+        assert_eq!(rt; left.ended.end, End::Exit(status));
+    }
+    Ok(())
+}
+
+#[test]
+fn a_line_that_cannot_be_put_ends_the_command(rt: HostRuntime) -> Result<(), Fail> {
+    let err = Room {
+        bytes: 100,
+        fail: &[(1, 3)],
+    };
+    let rows: [(&[&str], &str); 2] = [(&["walk"], ""), (&["run", "--report", "hello"], "hello\n")];
+    for (words, text) in rows {
+        let left = run_command(rt.alloc(), words, &HELLO, WIDE, err)?;
+        assert_eq!(rt; left.ended.end, End::Host(HostCall::PutErr));
+        assert_eq!(rt; left.ended.status, 74);
+        assert_eq!(rt; left.out.bytes(), text.as_bytes());
+        assert_eq!(rt; left.err.bytes(), "xem".as_bytes());
+        assert_eq!(rt; steps_of(&left.ended), None);
+    }
     Ok(())
 }
 
@@ -303,7 +456,7 @@ fn a_failing_sink_ends_the_run_with_what_it_took(rt: HostRuntime) -> Result<(), 
             bytes: room,
             fail: &[(1, taken)],
         };
-        let left = run_command(alloc, ["run", "hello"], &HELLO, out, WIDE)?;
+        let left = run_command(alloc, &["run", "hello"], &HELLO, out, WIDE)?;
         assert_eq!(rt; left.ended.end, End::Host(HostCall::PutOut));
         assert_eq!(rt; left.ended.status, 74);
         assert_eq!(rt; left.out.bytes(), text.as_bytes());
@@ -320,7 +473,7 @@ fn a_write_of_no_bytes_calls_no_sink(rt: HostRuntime) -> Result<(), Fail> {
         bytes: 100,
         fail: &[(1, 0)],
     };
-    let left = run_command(rt.alloc(), ["run", "hello"], &image, failing, WIDE)?;
+    let left = run_command(rt.alloc(), &["run", "hello"], &image, failing, WIDE)?;
     assert_eq!(rt; left.ended.end, End::Exit(0));
     assert_eq!(rt; steps_of(&left.ended), Some(9));
     Ok(())
@@ -329,7 +482,7 @@ fn a_write_of_no_bytes_calls_no_sink(rt: HostRuntime) -> Result<(), Fail> {
 #[test]
 fn a_write_goes_over_the_end_of_a_page(rt: HostRuntime) -> Result<(), Fail> {
     let image = two_pages(rt.alloc())?;
-    let left = run_command(rt.alloc(), ["run", "hello"], &image, WIDE, WIDE)?;
+    let left = run_command(rt.alloc(), &["run", "hello"], &image, WIDE, WIDE)?;
     assert_eq!(rt; left.ended.end, End::Exit(0));
     assert_eq!(rt; left.out.bytes(), "page to page".as_bytes());
     assert_eq!(rt; steps_of(&left.ended), Some(8));
@@ -337,7 +490,7 @@ fn a_write_goes_over_the_end_of_a_page(rt: HostRuntime) -> Result<(), Fail> {
         bytes: 100,
         fail: &[(2, 3)],
     };
-    let left = run_command(rt.alloc(), ["run", "hello"], &image, narrow, WIDE)?;
+    let left = run_command(rt.alloc(), &["run", "hello"], &image, narrow, WIDE)?;
     assert_eq!(rt; left.ended.end, End::Host(HostCall::PutOut));
     assert_eq!(rt; left.out.bytes(), "page to p".as_bytes());
     Ok(())
@@ -353,7 +506,7 @@ fn descriptor_two_is_the_error_output(rt: HostRuntime) -> Result<(), Fail> {
         (first, End::Host(HostCall::PutErr), 74, "he"),
     ] {
         let err = Room { bytes: 100, fail };
-        let left = run_command(rt.alloc(), ["run", "hello"], &image, WIDE, err)?;
+        let left = run_command(rt.alloc(), &["run", "hello"], &image, WIDE, err)?;
         assert_eq!(rt; left.ended.end, end);
         assert_eq!(rt; left.ended.status, status);
         assert_eq!(rt; left.err.bytes(), text.as_bytes());

@@ -166,7 +166,14 @@ fn on_image<O: Sink, E: Sink>(
         pages: command.pages,
         seed: command.seed,
     };
-    match prepare(alloc, image, bytes, arguments(words, command), &env, &limits) {
+    match prepare(
+        alloc,
+        image,
+        bytes,
+        arguments(words, command),
+        &env,
+        &limits,
+    ) {
         Ok(guest) => on_guest(command, guest, out, err),
         Err(PrepareFault::TooLong(fault)) => refuse(End::Start(fault), &start_line(fault), err),
         Err(PrepareFault::Memory) => lost(End::Memory),
