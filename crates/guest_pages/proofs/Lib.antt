@@ -5,6 +5,7 @@ pub mod WalkLemmas
 pub mod Takes
 pub mod Puts
 pub mod Writes
+pub mod KernelPuts
 pub mod Shows
 pub mod Counts
 pub mod Orders
@@ -17,4 +18,3 @@ pub mod Keeps
 pub mod Carries
 pub mod Laws
 pub mod Brings
-pub mod KernelPuts

@@ -1,15 +1,13 @@
 -- Lemmas on pieces, and on what is left of them.
-use Rattle.std.proofs.Common.{◌≡◌, ℕ, ◌+◌, ◌-◌, ◌≤◌, ◌<◌, ◌%◌, List, [], ◌∷◌, ◌++◌, Bool, true, false, cond, ◌&&◌, nat_lt, min, refl, sym, ap, ◌∙◌, ⊎_elim, arith, take, drop, length, length-append, length-take, length-drop, append-nil, append_assoc, zero-add, add-zero}
+use Rattle.std.proofs.Common.{◌≡◌, ℕ, ◌+◌, ◌-◌, ◌≤◌, ◌<◌, List, [], ◌∷◌, ◌++◌, refl, sym, ap, ◌∙◌, ⊎_elim, arith, take, drop, length, length-append, length-take, length-drop, append_assoc, add-zero}
 use Rattle.std.proofs.lemmas.Bool.{cases_lt, lt-ltb, le-ltb}
 use Rattle.std.proofs.lemmas.List.{take_all, drop_all, take-append-le, drop-append-le}
 use Rattle.std.proofs.lemmas.List.Sums.{sum_by-cons}
 use Rattle.std.proofs.Math.Seq.{take-append-add, drop-append-add, take-append_seam, drop-append_seam, take-length}
-use Rattle.std.specs.List.{list_all}
-use Rattle.machine_state.specs.declared.kinds.Kind.{Kind}
-use Rattle.machine_state.specs.Memory.{Permissions, page_size, bytes_at, written, first_miss}
-use Rattle.machine_state.proofs.MemoryLemmas.{bytes_at-append, bytes_at-zero, length-bytes_at, written_none, written_on, first_miss_part}
+use Rattle.machine_state.specs.Memory.{bytes_at, written}
+use Rattle.machine_state.proofs.MemoryLemmas.{bytes_at-append, length-bytes_at, written_none, written_on}
 use Rattle.guest_transfers.specs.declared.kinds.Piece.{Piece}
-use Rattle.guest_transfers.specs.Pieces.{asked, are_allowed, pieces_bytes, spread, pieces_from, bytes_between}
+use Rattle.guest_transfers.specs.Pieces.{asked, pieces_bytes, spread, pieces_from, bytes_between}
 
 -- what is left of pieces behind bytes of the first, and behind all of them
 pub from_inside : (piece : Piece) (pieces : List Piece) (done : ℕ) → done < piece.len
@@ -118,8 +116,13 @@ bytes_from byte (piece ∷ pieces) done = ⊎_elim
     let front : bytes_at byte piece.addr piece.len ≡ bytes_at byte piece.addr done ++ bytes_at byte (piece.addr + done) (piece.len - done) =
     ap (bytes_at byte piece.addr) split ∙ bytes_at-append byte piece.addr done (piece.len - done) in
     let behind = drop-append_seam (bytes_at byte piece.addr done) (bytes_at byte (piece.addr + done) (piece.len - done) ++ pieces_bytes byte pieces) in
-    rw (from_inside piece pieces done inside, bytes-cons byte (record { addr = piece.addr + done; len = piece.len - done }) pieces, bytes-cons byte piece pieces, front,
-    append_assoc (bytes_at byte piece.addr done) (bytes_at byte (piece.addr + done) (piece.len - done)) (pieces_bytes byte pieces))
+    rw (
+      from_inside piece pieces done inside,
+      bytes-cons byte (record { addr = piece.addr + done; len = piece.len - done }) pieces,
+      bytes-cons byte piece pieces,
+      front,
+      append_assoc (bytes_at byte piece.addr done) (bytes_at byte (piece.addr + done) (piece.len - done)) (pieces_bytes byte pieces),
+    )
     (sym (rw (length-bytes_at byte piece.addr done) at behind)))
     (λ (behind : piece.len ≤ done).
     let split : done ≡ length (bytes_at byte piece.addr piece.len) + (done - piece.len) = rw (length-bytes_at byte piece.addr piece.len) (omega arith) in
@@ -196,9 +199,15 @@ spread-append byte (piece ∷ pieces) xs ys = ⊎_elim
     ap (λ (n : ℕ). take n (xs ++ ys)) split ∙ take-append-add xs ys (piece.len - length xs) in
     let back : drop piece.len (xs ++ ys) ≡ drop (piece.len - length xs) ys =
     ap (λ (n : ℕ). drop n (xs ++ ys)) split ∙ drop-append-add xs ys (piece.len - length xs) in
-    rw (from_inside piece pieces (length xs) inside, spread_front byte piece pieces xs (omega arith),
-    spread-cons (written byte piece.addr xs) (record { addr = piece.addr + length xs; len = piece.len - length xs }) pieces ys,
-    spread-cons byte piece pieces (xs ++ ys), front, back, written-append byte piece.addr xs (take (piece.len - length xs) ys)) refl)
+    rw (
+      from_inside piece pieces (length xs) inside,
+      spread_front byte piece pieces xs (omega arith),
+      spread-cons (written byte piece.addr xs) (record { addr = piece.addr + length xs; len = piece.len - length xs }) pieces ys,
+      spread-cons byte piece pieces (xs ++ ys),
+      front,
+      back,
+      written-append byte piece.addr xs (take (piece.len - length xs) ys),
+    ) refl)
     (λ (behind : piece.len ≤ length xs).
     let left : take piece.len (xs ++ ys) ≡ take piece.len xs = take-append-le piece.len xs ys behind in
     let right : drop piece.len (xs ++ ys) ≡ drop piece.len xs ++ ys = drop-append-le piece.len xs ys behind in

@@ -1,15 +1,15 @@
 -- Lemmas on lists of buffers that are read record by record.
-use Rattle.std.proofs.Common.{◌≡◌, ℕ, zero, suc, ◌+◌, ◌-◌, ◌*◌, ◌%◌, ◌/◌, ◌≤◌, ◌<◌, ◌^◌, ◌⊎◌, inl, inr, List, [], ◌∷◌, ◌++◌, Option, Some, None, IsSome, min, length, refl, sym, ap, ◌∙◌, arith, ⊎_elim}
+use Rattle.std.proofs.Common.{◌≡◌, ℕ, zero, suc, ◌+◌, ◌-◌, ◌*◌, ◌%◌, ◌≤◌, ◌<◌, ◌^◌, inl, inr, List, [], ◌∷◌, ◌++◌, Some, min, length, refl, sym, ap, ◌∙◌, arith, ⊎_elim}
 use Rattle.machine_state.specs.declared.kinds.Kind.TheVariants.{Read}
 use Rattle.machine_state.specs.declared.kinds.Miss.{Miss}
 use Rattle.machine_state.specs.declared.kinds.Miss.TheVariants.{Away}
-use Rattle.machine_state.specs.Memory.{page_size, Swap, miss_at}
-use Rattle.guest_pages.specs.Table.{Table, blocked, perms_in}
-use Rattle.guest_pages.specs.Pages.{PagesValue, byte_of, table_of}
+use Rattle.machine_state.specs.Memory.{page_size}
+use Rattle.guest_pages.specs.Table.{blocked}
+use Rattle.guest_pages.specs.Pages.{PagesValue, table_of}
 use Rattle.guest_pages.proofs.Walks.{blocked_both, blocked_first}
 use Rattle.guest_transfers.specs.declared.kinds.Piece.{Piece}
 use Rattle.guest_transfers.specs.Buffers.{buffer_at, buffers_at, record_size}
-use Rattle.guest_transfers.specs.Moves.{AreRead, AreReadable, ListFaults, ListWaits, record_place}
+use Rattle.guest_transfers.specs.Moves.{AreReadable, ListFaults, ListWaits, record_place}
 use Rattle.guest_transfers.specs.Parts.{IsDenied, RecordStops}
 use Rattle.guest_transfers.proofs.PartLemmas.{denied_first, single_part}
 
@@ -30,7 +30,7 @@ buffers-next byte addr (suc count) =
 
 -- ---- where a list stops
 module _ (pages : PagesValue) (addr count : ℕ) (old new : List Piece) (after : length old ≤ length new) (less : length new < count) (place : record_place addr (length new) < 2 ^ 64)
-  (readable : AreReadable pages addr old (record_size * (length new - length old))) (miss : Miss) (stops : RecordStops (table_of pages) (record_place addr (length new)) miss) where
+    (readable : AreReadable pages addr old (record_size * (length new - length old))) (miss : Miss) (stops : RecordStops (table_of pages) (record_place addr (length new)) miss) where
   before_it : AreReadable pages addr old (record_size * length new + stops.skip - record_size * length old)
   before_it =
       let sum : record_size * length new + stops.skip - record_size * length old ≡ record_size * (length new - length old) + stops.skip = omega arith in

@@ -1,9 +1,9 @@
 -- Lemmas on draws of the random stream.
-use Rattle.std.proofs.Common.{◌≡◌, ℕ, zero, suc, ◌+◌, ◌-◌, ◌*◌, ◌/◌, ◌%◌, ◌≤◌, ◌<◌, List, [], ◌∷◌, ◌++◌, refl, sym, ap, ◌∙◌, arith, add-zero, slice_index}
+use Rattle.std.proofs.Common.{◌≡◌, ℕ, zero, suc, ◌+◌, ◌*◌, ◌/◌, ◌%◌, [], ◌∷◌, ◌++◌, refl, ap, arith, add-zero, slice_index}
 use Rattle.byteorder.specs.Endian.{little_bytes}
 use Rattle.machine_state.specs.Memory.{bytes_at}
 use Rattle.machine_state.specs.Random.{next_random}
-use Rattle.machine_state.proofs.MemoryLemmas.{bytes_at-append, bytes_at-zero}
+use Rattle.machine_state.proofs.MemoryLemmas.{bytes_at-append}
 use Rattle.guest_transfers.specs.Draws.{drawn, drawn_byte, number_after}
 
 pub number_after-zero : (number : ℕ) → number_after number 0 ≡ number

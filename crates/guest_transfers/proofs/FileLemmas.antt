@@ -1,11 +1,11 @@
 -- Lemmas on files that are read and written part by part.
-use Rattle.std.proofs.Common.{◌≡◌, ℕ, zero, suc, ◌+◌, ◌-◌, ◌≤◌, ◌<◌, ◌^◌, ◌==◌, ◌&&◌, List, [], ◌∷◌, ◌++◌, Bool, true, false, Option, Some, None, Result, Ok, Err, min, nat_lt, refl, sym, ap, ◌∙◌, ⊎_elim, arith, take, drop, replicate, length, get_or, set, append_assoc, append-nil, add-zero}
+use Rattle.std.proofs.Common.{◌≡◌, ℕ, ◌+◌, ◌-◌, ◌≤◌, ◌<◌, ◌^◌, List, [], ◌∷◌, ◌++◌, Option, Some, None, Ok, Err, refl, sym, ap, ◌∙◌, ⊎_elim, arith, take, drop, replicate, length, get_or, set, append_assoc, append-nil, add-zero}
 use Rattle.std.proofs.lemmas.Bool.{cases_lt, lt-leb, ne_eqb, lt-ltb, le-ltb}
 use Rattle.std.proofs.lemmas.List.{take_all, drop_all, drop-drop, take-take, set-set, set_past, set-get_or, get_or-set_same, get_or_past, length-append, length-take, length-replicate, length-take-le}
-use Rattle.std.proofs.Math.Seq.{take-add, take-append-add, take-append_seam, drop-append_seam, drop-append-add, take-length}
+use Rattle.std.proofs.Math.Seq.{take-add, take-append-add, take-append_seam, drop-append-add, take-length}
 use Rattle.machine_state.specs.World.{GuestFile, no_file, place_at}
 use Rattle.guest_files.specs.Checks.{answer_of, file_number}
-use Rattle.guest_files.specs.Content.{content_with, count_below, piece_of}
+use Rattle.guest_files.specs.Content.{content_with, count_below}
 use Rattle.guest_files.specs.Files.{AreFiles, FilesValue, file_of, with_file}
 use Rattle.guest_files.specs.Moves.{content_at, offset_end, read_piece, read_refusal, write_refusal, written_at}
 use Rattle.guest_files.specs.declared.errno.Errno.{Errno}
@@ -161,9 +161,11 @@ put-append files (Some number) at xs ys = ⊎_elim
     rw (there, set-set files number first (record first { content = content_with first.content (at + length xs) ys }), content-append file.content at xs ys) refl)
     (λ (past : length files ≤ number).
     let same : (file : GuestFile) → set files number file ≡ files = λ file. set_past files number file past in
-    rw (same (record (get_or files number no_file) { content = content_with (get_or files number no_file).content at xs }),
-    same (record (get_or files number no_file) { content = content_with (get_or files number no_file).content (at + length xs) ys }),
-    same (record (get_or files number no_file) { content = content_with (get_or files number no_file).content at (xs ++ ys) })) refl)
+    rw (
+      same (record (get_or files number no_file) { content = content_with (get_or files number no_file).content at xs }),
+      same (record (get_or files number no_file) { content = content_with (get_or files number no_file).content (at + length xs) ys }),
+      same (record (get_or files number no_file) { content = content_with (get_or files number no_file).content at (xs ++ ys) }),
+    ) refl)
     (cases_lt number (length files))
 
 pub written_at-append : (files : FilesValue) (fd at : ℕ) (xs ys : List ℕ) → count_below files.cap at (length xs) ≡ length xs

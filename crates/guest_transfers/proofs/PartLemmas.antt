@@ -1,6 +1,5 @@
 -- Lemmas on the parts of transfers.
-use Rattle.std.proofs.Common.{◌≡◌, ℕ, zero, suc, Result, Ok, Err, add-zero, ◌+◌, ◌-◌, ◌≤◌, ◌<◌, ◌%◌, ◌/◌, ◌^◌, List, [], ◌∷◌, ◌++◌, Bool, true, false, cond, ◌&&◌, Option, Some, None, is_none, min, max, refl, sym, ap, ◌∙◌, ⊎_elim, arith, take, drop, length, slice_range, append_assoc, append-nil, IfSome, IsSome, All, get_or}
-use Rattle.std.specs.List.{list_all}
+use Rattle.std.proofs.Common.{◌≡◌, ℕ, zero, suc, Result, Ok, Err, add-zero, ◌+◌, ◌-◌, ◌≤◌, ◌<◌, ◌%◌, ◌/◌, ◌^◌, List, [], ◌∷◌, ◌++◌, Bool, true, false, cond, Option, Some, None, is_none, min, max, refl, sym, ap, ◌∙◌, ⊎_elim, arith, take, drop, length, slice_range, append_assoc, append-nil, IsSome}
 use Rattle.std.proofs.lemmas.Bool.{cases_lt, false≢true, and_from, and_parts}
 use Rattle.std.proofs.lemmas.List.Sums.{sum_by-cons}
 use Rattle.std.proofs.lemmas.List.{length-append, drop-drop}
@@ -11,12 +10,12 @@ use Rattle.machine_state.specs.declared.kinds.Access.{Access}
 use Rattle.machine_state.specs.declared.kinds.Kind.{Kind}
 use Rattle.machine_state.specs.declared.kinds.Miss.{Miss}
 use Rattle.machine_state.specs.declared.kinds.Miss.TheVariants.{Unmapped, Denied, NonCanonical, Away}
-use Rattle.machine_state.specs.Memory.{Permissions, page_size, bytes_at, written, first_miss, miss_at, miss_in, is_noncanonical, Swap}
+use Rattle.machine_state.specs.Memory.{Permissions, page_size, bytes_at, written, first_miss, miss_at, miss_in, is_noncanonical}
 use Rattle.machine_state.proofs.MemoryLemmas.{first_miss_part, first_miss-suc, first_miss-zero, or_else_none, bytes_at-append, length-bytes_at}
 use Rattle.machine_state.specs.declared.kinds.Kind.TheVariants.{Write}
-use Rattle.guest_pages.specs.Table.{Table, Mapped, answer_of, blocked, perms_in, first_away, away_at}
+use Rattle.guest_pages.specs.Table.{Table, Mapped, answer_of, blocked, perms_in, away_at}
 use Rattle.guest_pages.specs.Pages.{PagesValue, table_of, byte_of}
-use Rattle.guest_pages.specs.Changes.{IsWritten, KeepsTable}
+use Rattle.guest_pages.specs.Changes.{IsWritten}
 use Rattle.guest_pages.specs.Laws.{FitMemory}
 use Rattle.guest_pages.proofs.Carries.{keeps_on, keeps_written, keeps_same}
 use Rattle.guest_pages.proofs.Walks.{away_at-away, blocked_part, blocked_within, first_away-away}
@@ -126,6 +125,7 @@ part_free perms kind pieces done h = of (pieces_from pieces done) (allowed_from 
   where
     zero_sum : (n : ℕ) → n + 0 ≡ n
     zero_sum n = omega arith
+
     of : (left : List Piece) → are_allowed perms kind left ≡ true → first_miss perms kind (first_part kind left).addr (first_part kind left).len ≡ None
     of [] h = first_miss-zero perms kind 0
     of (piece ∷ rest) h =
@@ -378,8 +378,17 @@ denied_first table kind addr len miss some one_page is denied = of (miss_at (per
     never (Unmapped addr) slot e d = cc
     never (Denied addr) slot e d = cc
     never (NonCanonical addr) slot e d = cc
+
     of : (o : Option Miss) → miss_at (perms_in table) kind addr ≡ o → (first : Miss) × (miss_at (perms_in table) kind addr ≡ Some first)
     of None none =
         let away = away_at-away (table (addr / page_size)) miss (sym (blocked_within table kind addr len some one_page none) ∙ is) in
         absurd (never miss away.0 away.1 denied)
     of (Some first) e = (first, e)
+
+-- each byte that is allowed is on a mapped page
+pub mapped_range : (table : Table) (kind : Kind) (addr len : ℕ) → first_miss (perms_in table) kind addr len ≡ None → IsMappedRange table addr len
+mapped_range table kind addr len none at from before =
+    let place : addr + (at - addr) ≡ at = omega arith in
+    let here : first_miss (perms_in table) kind at 1 ≡ None = rw place at (first_miss_part (perms_in table) kind addr len (at - addr) 1 (omega arith) none) in
+    let free = (or_else_none _ _ (sym (first_miss-suc (perms_in table) kind at 0) ∙ here)).0 in
+    mapped_of (table (at / page_size)) (allowed_case (is_noncanonical at) (perms_in table (at / page_size)) kind at free)

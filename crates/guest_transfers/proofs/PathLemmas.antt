@@ -1,18 +1,17 @@
 -- Lemmas on paths that are read part by part.
-use Rattle.std.proofs.Common.{◌≡◌, ℕ, zero, suc, ◌+◌, ◌-◌, ◌≤◌, ◌<◌, ◌%◌, ◌/◌, ◌==◌, List, [], ◌∷◌, ◌++◌, Bool, true, false, cond, not, Option, Some, None, nat_lt, refl, sym, ap, ◌∙◌, arith, ⊎_elim, take, length, append_assoc, append-nil, zero-add, add-zero}
-use Rattle.std.specs.List.{position, position_or_len}
+use Rattle.std.proofs.Common.{◌≡◌, ℕ, zero, suc, ◌+◌, ◌-◌, ◌≤◌, ◌<◌, ◌==◌, List, [], ◌∷◌, ◌++◌, Bool, true, false, cond, not, Option, Some, None, nat_lt, refl, sym, ap, ◌∙◌, arith, ⊎_elim, take, length, append-nil, zero-add, add-zero}
+use Rattle.std.specs.List.{position_or_len}
 use Rattle.std.specs.Option.{option_map}
-use Rattle.std.proofs.lemmas.List.{length-append, take-append-le}
+use Rattle.std.proofs.lemmas.List.{take-append-le}
 use Rattle.std.proofs.Math.Seq.{take-append-add}
-use Rattle.std.proofs.lemmas.Bool.{cases_lt, ne_eqb, lt-ltb, le-ltb, false≢true}
-use Rattle.machine_state.specs.declared.kinds.Kind.{Kind}
+use Rattle.std.proofs.lemmas.Bool.{cases_lt, ne_eqb, lt-ltb, le-ltb}
 use Rattle.machine_state.specs.declared.kinds.Kind.TheVariants.{Read}
 use Rattle.machine_state.specs.declared.kinds.Miss.{Miss}
-use Rattle.machine_state.specs.Memory.{Memory, Swap, page_size, first_miss, miss_at, bytes_at, allowed_run, or_else}
-use Rattle.machine_state.proofs.MemoryLemmas.{first_miss-suc, or_else_none, bytes_at-zero, length-bytes_at}
+use Rattle.machine_state.specs.Memory.{Memory, Swap, first_miss, miss_at, bytes_at, allowed_run}
+use Rattle.machine_state.proofs.MemoryLemmas.{first_miss-suc, or_else_none, bytes_at-zero}
 use Rattle.guest_pages.specs.Table.{perms_in}
 use Rattle.guest_pages.specs.Pages.{PagesValue, byte_of, memory_of, table_of}
-use Rattle.guest_transfers.specs.Paths.{Path, Text, TooLong, Fault, end_of, ended_path, path_at, path_in, path_max}
+use Rattle.guest_transfers.specs.Paths.{Text, TooLong, Fault, end_of, path_at, path_in, path_max}
 
 -- ---- the first 0
 end-cons : (x : ℕ) (xs : List ℕ) → end_of (x ∷ xs) ≡ cond (x == 0) (Some 0) (option_map suc (end_of xs))
@@ -20,6 +19,7 @@ end-cons x xs = by (x == 0)
   where
     place : ℕ
     place = position_or_len (λ byte. byte == 0) xs
+
     by : (b : Bool) → cond (nat_lt (cond (not b) (1 + place) 0) (suc (length xs))) (Some (cond (not b) (1 + place) 0)) None
         ≡ cond b (Some 0) (option_map suc (cond (nat_lt place (length xs)) (Some place) None))
     by true = rw (lt-ltb 0 (suc (length xs)) (omega arith)) refl

@@ -1,5 +1,5 @@
 -- Lemmas on transfers that are taken up again.
-use Rattle.std.proofs.Common.{◌≡◌, ℕ, ◌+◌, ◌-◌, ◌*◌, ◌/◌, ◌%◌, ◌≤◌, List, ◌++◌, Option, length, sym, ap, ◌∙◌, arith, append_assoc}
+use Rattle.std.proofs.Common.{◌≡◌, ℕ, ◌+◌, ◌-◌, ◌/◌, ◌%◌, ◌≤◌, List, ◌++◌, Option, length, sym, ap, ◌∙◌, arith, append_assoc}
 use Rattle.std.specs.Prelude.{is_some}
 use Rattle.std.proofs.lemmas.List.{length-append}
 use Rattle.host_edge.specs.Streams.{told}
@@ -7,7 +7,7 @@ use Rattle.guest_pages.specs.Pages.{PagesValue, byte_of}
 use Rattle.guest_pages.proofs.Carries.{keeps_on}
 use Rattle.guest_transfers.specs.declared.kinds.Piece.{Piece}
 use Rattle.guest_transfers.specs.Draws.{drawn, number_after}
-use Rattle.guest_transfers.specs.Pieces.{asked, bytes_between, pieces_bytes, pieces_from, spread}
+use Rattle.guest_transfers.specs.Pieces.{bytes_between, pieces_bytes, pieces_from, spread}
 use Rattle.guest_transfers.specs.Moves.{IsPut, Moved}
 use Rattle.guest_transfers.proofs.Along.{from_from, spread-append}
 use Rattle.guest_transfers.proofs.PartLemmas.{range-append}

@@ -1,5 +1,5 @@
 -- A list of buffers in guest memory (struct iovec of x86-64 Linux: address and length, 8 bytes each).
-use Rattle.std.specs.Prelude.{ℕ, zero, suc, ◌+◌, ◌*◌, List, [], ◌∷◌}
+use Rattle.std.specs.Prelude.{ℕ, zero, suc, ◌+◌, List, [], ◌∷◌}
 use Rattle.machine_state.specs.Memory.{number_at}
 use Rattle.guest_transfers.specs.declared.kinds.Piece.{Piece}
 

@@ -1,6 +1,6 @@
 -- What transfers move, as far as they come, and where they stop.
-use Rattle.std.specs.Prelude.{ℕ, ◌≡◌, ◌≤◌, ◌<◌, ◌+◌, ◌-◌, ◌*◌, ◌/◌, ◌%◌, ◌^◌, ◌⊎◌, true, false, ⊤, List, [], ◌∷◌, ◌++◌, length, Option, Some, None, IsSome}
-use Rattle.machine_state.specs.Memory.{Swap, Memory, page_size, first_miss, miss_at, bytes_at}
+use Rattle.std.specs.Prelude.{ℕ, ◌≡◌, ◌≤◌, ◌<◌, ◌+◌, ◌-◌, ◌*◌, ◌/◌, ◌%◌, ◌^◌, ◌⊎◌, true, false, ⊤, List, [], ◌++◌, length, Option, Some, None, IsSome}
+use Rattle.machine_state.specs.Memory.{Swap, page_size, first_miss, miss_at, bytes_at}
 use Rattle.machine_state.specs.World.{place_at}
 use Rattle.machine_state.specs.declared.kinds.Access.{Access}
 use Rattle.machine_state.specs.declared.kinds.Kind.{Kind}
@@ -46,7 +46,8 @@ AreReady keeps kind pieces from to =
 abbrev pub Stops : (Access → Option Miss) → Kind → List Piece → (from : ℕ) → Stop → Type 0
 Stops keeps kind pieces from (Whole done) = (from ≤ done) × (done ≤ asked pieces) × AreReady keeps kind pieces from (done + 1)
 Stops keeps kind pieces from (Away done slot) =
-    (from ≤ done) × (done < asked pieces) × AreReady keeps kind pieces from done × (keeps (part_at kind pieces done) ≡ Some (AwayMiss slot))
+    (from ≤ done) × (done < asked pieces) × AreReady keeps kind pieces from done
+    × (keeps (part_at kind pieces done) ≡ Some (AwayMiss slot))
 Stops keeps kind pieces from Failed = ⊤
 
 -- a call that failed is counted, and nothing else is

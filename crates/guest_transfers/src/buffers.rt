@@ -49,12 +49,7 @@ fn buffer(pages: &Pages, addr: u64) -> Piece
 }
 
 /// Reads a list of so many buffers behind those that stand in `list`.
-pub fn read_list(
-    pages: &Pages,
-    addr: u64,
-    count: u64,
-    list: &mut ArrayVec<Piece, 1024>,
-) -> ListRead
+pub fn read_list(pages: &Pages, addr: u64, count: u64, list: &mut ArrayVec<Piece, 1024>) -> ListRead
     requires most { count ≤ most_buffers }
     requires within { length list.old.items ≤ count }
     requires place { record_place addr (length list.old.items) < 2 ^ 64 }

@@ -5,8 +5,8 @@ ghost use Rattle.guest_transfers.specs.Moves.{ReadsPath};
 ghost use Rattle.guest_transfers.specs.Paths.{end_of, path_max};
 
 use crate::kinds::PathRead;
-use arrayvec::ArrayVec;
 use crate::pieces::away;
+use arrayvec::ArrayVec;
 use guest_pages::{Kind, Pages};
 use machine_state::PAGE_SIZE;
 

@@ -3,7 +3,7 @@
 /// A transfer between pieces and a stream or a file: address and length of each piece; the page that is away at first, by its
 /// number, or 0; how many bytes the source or the file has, or the most that the file may have; how many bytes have moved when
 /// that page is asked for; and how many move in all, where they aren't put.
-pub type Case = (&'static [(u64, u64)], u64, usize, Option<u64>, u64);
+pub type Case = (&'static [(u64, u64)], u64, u32, Option<u64>, u64);
 
 static MOVES: [Case; 15] = [
     (&[], 0, 9, None, 0),
@@ -15,9 +15,27 @@ static MOVES: [Case; 15] = [
     (&[(0x1000, 12288)], 1, 20000, Some(0), 12288),
     (&[(0x1000, 12288)], 2, 20000, Some(4096), 12288),
     (&[(0x1000, 12288)], 3, 20000, Some(8192), 12288),
-    (&[(0x1800, 0x1000), (7, 0), (0x2800, 0x800)], 2, 20000, Some(0x800), 0x1800),
-    (&[(0x1F00, 0x200), (0x1F80, 0x200)], 2, 2000, Some(0x100), 0x400),
-    (&[(0x3FF0, 16), (0x1000, 16), (0x3FF8, 8)], 1, 30, Some(16), 30),
+    (
+        &[(0x1800, 0x1000), (7, 0), (0x2800, 0x800)],
+        2,
+        20000,
+        Some(0x800),
+        0x1800,
+    ),
+    (
+        &[(0x1F00, 0x200), (0x1F80, 0x200)],
+        2,
+        2000,
+        Some(0x100),
+        0x400,
+    ),
+    (
+        &[(0x3FF0, 16), (0x1000, 16), (0x3FF8, 8)],
+        1,
+        30,
+        Some(16),
+        30,
+    ),
     (&[(0x1000, 12288)], 0, 3, None, 3),
     (&[(0x1000, 12288)], 2, 4096, Some(4096), 4096),
     (&[(0x2000, 5)], 2, 0, Some(0), 0),

@@ -1,4 +1,4 @@
-use Rattle.std.proofs.Common.{◌≡◌, ◌+◌, None, arith, add-zero}
+use Rattle.std.proofs.Common.{arith, add-zero}
 use Rattle.machine_state.specs.declared.kinds.Kind.TheVariants.{Read}
 use Rattle.guest_pages.specs.Pages.{table_of}
 use Rattle.guest_pages.proofs.Walks.{blocked_part}

@@ -1,4 +1,4 @@
-use Rattle.std.proofs.Common.{◌≡◌, ◌∙◌, ◌+◌, ◌-◌, ◌%◌, ℕ, None, Some, min, inl, ap, sym, refl, arith}
+use Rattle.std.proofs.Common.{◌≡◌, ◌∙◌, ◌+◌, ◌-◌, ◌%◌, min, inl, ap, sym, refl, arith}
 use Rattle.machine_state.specs.declared.kinds.Kind.TheVariants.{Read}
 use Rattle.machine_state.specs.Memory.{page_size}
 use Rattle.machine_state.proofs.MemoryLemmas.{first_miss-zero}

@@ -1,4 +1,4 @@
-use Rattle.std.proofs.Common.{◌-◌, ◌+◌, ◌*◌, ◌^◌, ◌≡◌, ◌≤◌, ◌<◌, length}
+use Rattle.std.proofs.Common.{◌-◌, ◌*◌, ◌^◌, ◌≤◌, ◌<◌, length}
 use Rattle.guest_transfers.specs.Buffers.{record_size}
 use Rattle.guest_transfers.specs.Moves.{AreRead, AreReadable, record_place}
 use Rattle.guest_transfers.proofs.buffers.read_list.Given as goal

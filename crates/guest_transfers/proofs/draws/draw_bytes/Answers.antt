@@ -1,13 +1,13 @@
-use Rattle.std.proofs.Common.{◌≡◌, ◌∙◌, ◌+◌, ◌-◌, ◌*◌, ◌/◌, ◌%◌, ◌≤◌, ◌<◌, ◌++◌, ℕ, List, [], None, Some, length, take, ap, sym, refl, arith}
+use Rattle.std.proofs.Common.{◌≡◌, ◌∙◌, ◌+◌, ◌-◌, ◌/◌, ◌%◌, ◌<◌, ◌++◌, None, length, take, ap, sym, arith}
 use Rattle.machine_state.specs.declared.kinds.Kind.TheVariants.{Write}
 use Rattle.machine_state.proofs.MemoryLemmas.{bytes_at-zero, length-bytes_at}
 use Rattle.guest_pages.specs.Pages.{table_of}
 use Rattle.guest_pages.specs.Table.{blocked}
-use Rattle.guest_transfers.specs.Draws.{drawn, drawn_byte, number_after}
-use Rattle.guest_transfers.specs.Moves.{Moved, blocked_access}
+use Rattle.guest_transfers.specs.Draws.{drawn, drawn_byte}
+use Rattle.guest_transfers.specs.Moves.{blocked_access}
 use Rattle.guest_transfers.specs.Pieces.{asked, single}
 use Rattle.guest_transfers.proofs.DrawLemmas.{drawn-after, drawn-append, number_after-after, number_after-next, number_after-zero}
-use Rattle.guest_transfers.proofs.PartLemmas.{answered_err, answered_ok, asked-single, blocked_rest, free-away, moved_more, moved_none, next_part, ready_more, ready_none}
+use Rattle.guest_transfers.proofs.PartLemmas.{answered_err, answered_ok, blocked_rest, free-away, moved_more, moved_none, ready_more, ready_none}
 use Rattle.guest_transfers.proofs.draws.draw_bytes.Goals as goal
 
 pub loop-done-init : goal.loop-done-init

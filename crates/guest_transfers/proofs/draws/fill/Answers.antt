@@ -1,9 +1,8 @@
-use Rattle.std.proofs.Common.{◌≡◌, ◌∙◌, ◌+◌, ◌/◌, ◌%◌, ◌<◌, ℕ, List, ◌++◌, ◌∷◌, [], length, slice_index, ap, sym, refl, arith, add-zero}
+use Rattle.std.proofs.Common.{◌≡◌, ◌∙◌, ◌+◌, ◌/◌, ap, sym, refl, arith}
 use Rattle.std.proofs.lemmas.List.{length-set, take_more_set}
-use Rattle.byteorder.specs.Endian.{little_bytes}
 use Rattle.machine_state.proofs.MemoryLemmas.{bytes_at-zero}
-use Rattle.guest_transfers.specs.Draws.{drawn, drawn_byte, number_after}
-use Rattle.guest_transfers.proofs.DrawLemmas.{drawn-append, drawn-after, drawn-next, number_after-next, number_after-zero}
+use Rattle.guest_transfers.specs.Draws.{drawn_byte, number_after}
+use Rattle.guest_transfers.proofs.DrawLemmas.{drawn-next, number_after-next, number_after-zero}
 use Rattle.guest_transfers.proofs.draws.fill.Goals.{then-place-eq7, else-place-eq7}
 use Rattle.guest_transfers.proofs.draws.fill.Goals as goal
 

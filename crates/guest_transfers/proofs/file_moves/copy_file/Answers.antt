@@ -1,13 +1,13 @@
-use Rattle.std.proofs.Common.{◌≡◌, ◌∙◌, ◌+◌, ◌-◌, ◌≤◌, ◌<◌, ◌++◌, ◌/◌, ℕ, List, [], None, Some, IsSome, length, take, ap, sym, refl, arith, subst}
+use Rattle.std.proofs.Common.{◌≡◌, ◌∙◌, ◌+◌, ◌-◌, ◌≤◌, ◌<◌, ◌/◌, None, length, ap, sym, arith}
 use Rattle.std.proofs.lemmas.List.{length-append}
 use Rattle.machine_state.specs.declared.kinds.Kind.TheVariants.{Write}
 use Rattle.machine_state.specs.Memory.{page_size}
-use Rattle.guest_pages.specs.Pages.{PagesValue, table_of}
+use Rattle.guest_pages.specs.Pages.{table_of}
 use Rattle.guest_pages.specs.Table.{away_at}
 use Rattle.guest_pages.proofs.Walks.{away_at-away}
 use Rattle.guest_files.specs.Moves.{read_piece}
 use Rattle.guest_transfers.specs.Moves.{away_access}
-use Rattle.guest_transfers.specs.Pieces.{asked, part_at, single}
+use Rattle.guest_transfers.specs.Pieces.{asked, single}
 use Rattle.guest_transfers.proofs.FileLemmas.{piece_short, read_ended, read_on}
 use Rattle.guest_transfers.proofs.PartLemmas.{asked-single, away_rest, is_away, low_range, moved_more, moved_none, next_part, ready_more, ready_none, single_part}
 use Rattle.guest_transfers.proofs.file_moves.copy_file.Goals as goal

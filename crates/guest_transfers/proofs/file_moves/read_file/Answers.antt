@@ -1,12 +1,12 @@
-use Rattle.std.proofs.Common.{◌≡◌, ◌∙◌, ◌+◌, ◌-◌, ◌≤◌, ◌<◌, ◌++◌, ℕ, List, [], None, Some, length, take, ap, sym, refl, arith, subst}
-use Rattle.std.proofs.lemmas.List.{length-take, length-append}
+use Rattle.std.proofs.Common.{◌≡◌, ◌+◌, ◌-◌, ◌≤◌, ◌<◌, None, length, arith}
+use Rattle.std.proofs.lemmas.List.{length-append}
 use Rattle.machine_state.specs.declared.kinds.Kind.TheVariants.{Write}
-use Rattle.guest_pages.specs.Pages.{PagesValue, table_of}
-use Rattle.guest_pages.specs.Table.{Table, blocked, perms_in}
+use Rattle.guest_pages.specs.Pages.{table_of}
+use Rattle.guest_pages.specs.Table.{blocked}
 use Rattle.guest_files.specs.Moves.{read_piece}
-use Rattle.guest_transfers.specs.Moves.{Moved, blocked_access}
+use Rattle.guest_transfers.specs.Moves.{blocked_access}
 use Rattle.guest_transfers.specs.Pieces.{asked}
-use Rattle.guest_transfers.proofs.FileLemmas.{piece_short, read_ended, read_on}
+use Rattle.guest_transfers.proofs.FileLemmas.{piece_short, read_on}
 use Rattle.guest_transfers.proofs.PartLemmas.{answered_err, answered_ok, blocked_rest, free-away, moved_more, moved_none, ready_more, ready_none}
 use Rattle.guest_transfers.proofs.file_moves.read_file.Goals as goal
 

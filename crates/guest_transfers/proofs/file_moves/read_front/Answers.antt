@@ -1,5 +1,5 @@
-use Rattle.std.proofs.Common.{◌≡◌, ◌∙◌, ◌<◌, ◌^◌, ap, sym, refl, arith, length, take, drop, List, ℕ, []}
-use Rattle.guest_files.specs.Moves.{read_refusal, read_piece}
+use Rattle.std.proofs.Common.{refl, arith}
+use Rattle.guest_files.specs.Moves.{read_refusal}
 use Rattle.guest_transfers.proofs.FileLemmas.{never_refused, none_behind, read_passes}
 use Rattle.guest_transfers.proofs.file_moves.read_front.Goals as goal
 

@@ -1,4 +1,4 @@
-use Rattle.std.proofs.Common.{◌≡◌, ◌≤◌, ◌∙◌, length, take, arith, refl, ap}
+use Rattle.std.proofs.Common.{length, take, arith, refl, ap}
 use Rattle.guest_pages.specs.Pages.{table_of}
 use Rattle.guest_transfers.proofs.FileLemmas.{piece_short}
 use Rattle.guest_transfers.proofs.PartLemmas.{ready_write}

@@ -1,10 +1,7 @@
-use Rattle.std.proofs.Common.{◌≡◌, ◌∙◌, ◌+◌, ◌-◌, ◌≤◌, ◌<◌, ◌++◌, ℕ, List, [], None, Some, length, take, ap, sym, refl, arith, subst}
-use Rattle.std.proofs.lemmas.List.{length-take, length-append}
+use Rattle.std.proofs.Common.{◌≡◌, ◌∙◌, ◌+◌, ◌-◌, ◌≤◌, ◌<◌, ℕ, [], length, take, ap, sym, refl, arith}
 use Rattle.machine_state.specs.declared.kinds.Kind.TheVariants.{Read}
-use Rattle.machine_state.specs.Memory.{bytes_at, Swap}
-use Rattle.machine_state.proofs.MemoryLemmas.{length-bytes_at}
+use Rattle.machine_state.specs.Memory.{bytes_at}
 use Rattle.guest_pages.specs.Pages.{byte_of, table_of}
-use Rattle.guest_pages.specs.Table.{Table, blocked, perms_in}
 use Rattle.guest_files.specs.Content.{count_below}
 use Rattle.guest_files.specs.Moves.{written_at}
 use Rattle.guest_transfers.specs.Moves.{blocked_access}

@@ -1,6 +1,6 @@
-use Rattle.std.proofs.Common.{◌≡◌, ◌∙◌, ◌<◌, ◌^◌, ap, sym, refl, arith, length}
+use Rattle.std.proofs.Common.{sym, arith, length}
 use Rattle.guest_files.specs.Moves.{write_refusal}
-use Rattle.guest_transfers.proofs.FileLemmas.{never_refused, write_passes, written_nothing, written_at-append, written_front}
+use Rattle.guest_transfers.proofs.FileLemmas.{never_refused, write_passes, written_nothing}
 use Rattle.guest_transfers.proofs.file_moves.write_front.Goals as goal
 
 pub returns-then-at-from-clause-written : goal.returns-then-at-from-clause-written

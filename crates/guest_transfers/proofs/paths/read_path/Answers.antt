@@ -1,12 +1,11 @@
-use Rattle.std.proofs.Common.{◌≡◌, ◌∙◌, ◌+◌, ◌-◌, ◌%◌, ◌≤◌, ◌<◌, ◌⊎◌, ℕ, List, [], ◌++◌, None, Some, min, length, inl, inr, ap, sym, refl, arith}
+use Rattle.std.proofs.Common.{◌≡◌, ◌∙◌, ◌+◌, ◌-◌, ◌%◌, ◌<◌, ℕ, List, ◌++◌, None, Some, min, length, inl, inr, ap, sym, refl, arith}
 use Rattle.std.proofs.lemmas.List.{length-append}
 use Rattle.machine_state.specs.declared.kinds.Kind.TheVariants.{Read}
-use Rattle.machine_state.specs.declared.kinds.Miss.TheVariants.{Away}
-use Rattle.machine_state.specs.Memory.{Swap, bytes_at, first_miss, page_size}
+use Rattle.machine_state.specs.Memory.{bytes_at, first_miss, page_size}
 use Rattle.machine_state.proofs.MemoryLemmas.{bytes_at-append, bytes_at-zero, first_miss-append, first_miss-zero, or_else_none}
 use Rattle.guest_pages.specs.Pages.{byte_of, table_of}
 use Rattle.guest_pages.specs.Table.{blocked, first_away, perms_in}
-use Rattle.guest_transfers.specs.Paths.{end_of, path_max}
+use Rattle.guest_transfers.specs.Paths.{path_max}
 use Rattle.guest_transfers.proofs.PartLemmas.{denied_first, single_part}
 use Rattle.guest_transfers.proofs.PathLemmas.{end-none, fault_path, found_path, long_path}
 use Rattle.guest_transfers.proofs.paths.read_path.Goals as goal

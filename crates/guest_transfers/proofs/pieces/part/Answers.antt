@@ -1,8 +1,6 @@
-use Rattle.std.proofs.Common.{◌≡◌, ◌<◌, ◌≤◌, ◌+◌, sym, ◌∙◌, arith}
-use Rattle.machine_state.specs.Memory.{first_miss}
 use Rattle.guest_pages.specs.Table.{perms_in}
 use Rattle.guest_pages.specs.Pages.{table_of}
-use Rattle.guest_transfers.proofs.PartLemmas.{are_low, part_free, part_some, part_within, part_one_page, between_more, moved_more, moved_none, ready_more, ready_none}
+use Rattle.guest_transfers.proofs.PartLemmas.{are_low, part_free, part_some, part_within, part_one_page}
 use Rattle.guest_transfers.proofs.pieces.part.Goals as goal
 
 pub part_of-requires : goal.part_of-requires

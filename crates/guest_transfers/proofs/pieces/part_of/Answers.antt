@@ -1,8 +1,7 @@
-use Rattle.std.proofs.Common.{◌≡◌, ◌∙◌, ◌+◌, ◌-◌, ◌<◌, ℕ, List, ◌∷◌, [], drop, length, get_or, ap, sym, refl, arith}
+use Rattle.std.proofs.Common.{◌≡◌, ◌∙◌, ◌+◌, ◌-◌, ◌∷◌, [], drop, get_or, refl, arith}
 use Rattle.std.proofs.lemmas.List.{drop_more, drop_all}
-use Rattle.guest_transfers.specs.declared.kinds.Piece.{Piece}
-use Rattle.guest_transfers.specs.Pieces.{pieces_from, first_part}
-use Rattle.guest_transfers.proofs.Along.{from_inside, from_behind, from_none, spread-append, bytes_from, front_bytes}
+use Rattle.guest_transfers.specs.Pieces.{pieces_from}
+use Rattle.guest_transfers.proofs.Along.{from_inside, from_behind, from_none}
 use Rattle.guest_transfers.proofs.pieces.part_of.Goals as goal
 
 pub returns-then-left-piece : goal.returns-then-left-piece

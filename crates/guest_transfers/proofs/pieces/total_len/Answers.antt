@@ -1,7 +1,6 @@
-use Rattle.std.proofs.Common.{◌≡◌, ◌∙◌, ◌+◌, take, length, ap, sym, refl, arith}
+use Rattle.std.proofs.Common.{arith}
 use Rattle.std.proofs.lemmas.List.{take_all}
 use Rattle.std.proofs.lemmas.List.Sums.{sum_by_more}
-use Rattle.guest_transfers.specs.Pieces.{asked}
 use Rattle.guest_transfers.proofs.pieces.total_len.Goals as goal
 
 pub loop-piece-preserved : goal.loop-piece-preserved

@@ -1,4 +1,4 @@
-use Rattle.std.proofs.Common.{◌≡◌, ◌∙◌, ◌+◌, ◌≤◌, ◌<◌, ℕ, List, ◌++◌, ap, sym, refl, arith}
+use Rattle.std.proofs.Common.{◌∙◌, ◌+◌, ◌<◌, ℕ, List, ◌++◌, ap, refl, arith}
 use Rattle.machine_state.specs.declared.kinds.Kind.TheVariants.{Read}
 use Rattle.host_edge.specs.Streams.{told}
 use Rattle.guest_pages.specs.Pages.{byte_of, table_of}

@@ -1,6 +1,5 @@
-use Rattle.std.proofs.Common.{◌≡◌, ◌≤◌, None, Some, refl, arith, take, length, add-zero}
+use Rattle.std.proofs.Common.{refl, arith, take, length}
 use Rattle.std.proofs.lemmas.List.{length-take}
-use Rattle.machine_state.specs.declared.kinds.Kind.TheVariants.{Write}
 use Rattle.guest_pages.specs.Pages.{table_of}
 use Rattle.guest_transfers.proofs.PartLemmas.{ready_write}
 use Rattle.guest_transfers.proofs.streams.take_part.Goals as goal

@@ -1,9 +1,8 @@
-use Rattle.std.proofs.Common.{◌≡◌, ◌∙◌, ◌+◌, ◌≤◌, ◌<◌, ℕ, None, Some, inl, inr, ap, sym, refl, arith, subst}
+use Rattle.std.proofs.Common.{◌≡◌, ◌∙◌, ◌+◌, ◌<◌, None, refl, arith}
 use Rattle.machine_state.specs.declared.kinds.Kind.TheVariants.{Write}
-use Rattle.machine_state.specs.declared.kinds.Miss.TheVariants.{Away}
 use Rattle.guest_pages.specs.Pages.{table_of}
-use Rattle.guest_pages.specs.Table.{Table, blocked, perms_in}
-use Rattle.guest_transfers.specs.Moves.{Took, blocked_access}
+use Rattle.guest_pages.specs.Table.{blocked}
+use Rattle.guest_transfers.specs.Moves.{blocked_access}
 use Rattle.guest_transfers.specs.Pieces.{asked}
 use Rattle.guest_transfers.proofs.PartLemmas.{answered_err, answered_ok, blocked_rest, free-away, ready_more, ready_none, took_more, took_none}
 use Rattle.guest_transfers.proofs.streams.take_pieces.Goals as goal
