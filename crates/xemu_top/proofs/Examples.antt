@@ -1,5 +1,5 @@
 -- What the written command gives for small programs, computed: the sample program, whole and cut, and words that are refused.
-use Rattle.std.proofs.Common.{◌≡◌, ℕ, List, [], ◌∷◌, map, take, Bool, if◌then◌else◌, Option, Some, None, refl, set}
+use Rattle.std.proofs.Common.{◌≡◌, ℕ, List, [], ◌∷◌, map, take, if◌then◌else◌, Option, Some, None, refl, set}
 use Rattle.std.specs.Prelude.{codes, ◌++◌}
 use Rattle.std.specs.Fmt.{decimal}
 use Rattle.std.specs.Cmp.Lexicographic.{pointwise}
@@ -133,14 +133,14 @@ hello_text = codes "hello\n"
 abbrev OnHello : Type 0
 OnHello =
     map (shown hello) (
-      (codes "run" ∷ codes "hello" ∷ [])
-      ∷ (codes "run" ∷ codes "--budget" ∷ codes "3" ∷ codes "--report" ∷ codes "hello" ∷ [])
-      ∷ (codes "run" ∷ codes "--budget" ∷ codes "7" ∷ codes "hello" ∷ [])
-      ∷ (codes "run" ∷ codes "--budget" ∷ codes "8" ∷ codes "--report" ∷ codes "hello" ∷ [])
-      ∷ (codes "run" ∷ codes "--budget" ∷ codes "07" ∷ codes "hello" ∷ [])
-      ∷ (codes "run" ∷ codes "--fast" ∷ codes "hello" ∷ [])
-      ∷ (codes "run" ∷ codes "none" ∷ [])
-      ∷ [])
+    (codes "run" ∷ codes "hello" ∷ [])
+    ∷ (codes "run" ∷ codes "--budget" ∷ codes "3" ∷ codes "--report" ∷ codes "hello" ∷ [])
+    ∷ (codes "run" ∷ codes "--budget" ∷ codes "7" ∷ codes "hello" ∷ [])
+    ∷ (codes "run" ∷ codes "--budget" ∷ codes "8" ∷ codes "--report" ∷ codes "hello" ∷ [])
+    ∷ (codes "run" ∷ codes "--budget" ∷ codes "07" ∷ codes "hello" ∷ [])
+    ∷ (codes "run" ∷ codes "--fast" ∷ codes "hello" ∷ [])
+    ∷ (codes "run" ∷ codes "none" ∷ [])
+    ∷ [])
     ≡ ended (Exit 0) 0 (codes "hello\n") [] (Some 8)
     ∷ ended Budget 75 [] (codes "xemu: budget " ++ decimal 3 ++ codes "\n") (Some 3)
     ∷ ended Budget 75 (codes "hello\n") [] (Some 7)
@@ -154,8 +154,8 @@ OnHello =
 abbrev OnFiles : Type 0
 OnFiles =
     map (λ bytes. shown bytes (codes "run" ∷ codes "hello" ∷ [])) (
-      [] ∷ take 63 hello ∷ take 119 hello ∷ take 158 hello ∷ set hello 16 4
-      ∷ set (set (set hello 120 15) 121 88) 122 193 ∷ set hello 121 7 ∷ [])
+    [] ∷ take 63 hello ∷ take 119 hello ∷ take 158 hello ∷ set hello 16 4
+    ∷ set (set (set hello 120 15) 121 88) 122 193 ∷ set hello 121 7 ∷ [])
     ≡ image_refused 1 0 (codes "xemu: image " ++ decimal 1 ++ codes " at " ++ decimal 0 ++ codes "\n")
     ∷ image_refused 1 63 (codes "xemu: image " ++ decimal 1 ++ codes " at " ++ decimal 63 ++ codes "\n")
     ∷ image_refused 10 32 (codes "xemu: image " ++ decimal 10 ++ codes " at " ++ decimal 32 ++ codes "\n")
