@@ -1,5 +1,5 @@
 -- A guest before its first step stands for the first world of its program.
-use Rattle.std.proofs.Common.{◌≡◌, ℕ, ◌≤◌, List, Option, None, refl, subst}
+use Rattle.std.proofs.Common.{◌≡◌, ℕ, ◌≤◌, Option, None, refl}
 use Rattle.std.proofs.lemmas.Bool.{le-leb}
 use Rattle.machine_state.specs.declared.kinds.GuestEnd.{GuestEnd}
 use Rattle.machine_state.specs.Memory.{Swap}
@@ -8,7 +8,6 @@ use Rattle.core_step.specs.Machine.{state_of}
 use Rattle.start_stack.specs.Stack.{stack_size, longest_stack}
 use Rattle.program_load.specs.Load.{Program, first_regions, first_state, first_world}
 use Rattle.guest_run.specs.GuestValue.{GuestValue}
-use Rattle.guest_run.specs.Following.{HasRunSignal, run_end}
 use Rattle.guest_run.specs.Starting.{IsPrepared, stack_fault}
 
 pub fault-none : (program : Program) → stack_size program.args program.env ≤ longest_stack → stack_fault program ≡ None

@@ -26,7 +26,11 @@ impl Guest {
     ghost use Rattle.std.specs.Prelude.{◌≡◌, IfOk, None};
 
     /// A guest that hasn't ended.
-    pub(crate) fn new(alloc: Global, machine: Machine, regions: Regions) -> Result<Guest, AllocError>
+    pub(crate) fn new(
+        alloc: Global,
+        machine: Machine,
+        regions: Regions,
+    ) -> Result<Guest, AllocError>
         ensures { IfOk result (λ guest. guest ≡ record { machine = machine; regions = regions; end = None }) }
     {
         let cache = FetchCache::new(alloc)?;

@@ -14,5 +14,5 @@ pub use guest::Guest;
 pub use host_edge::HostCall;
 pub use laws::run_trail_law;
 pub use running::run;
-pub use starting::{Limits, PrepareFault, prepare};
 pub use start_stack::TooLong;
+pub use starting::{Limits, PrepareFault, prepare};

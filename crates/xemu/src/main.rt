@@ -1,4 +1,4 @@
-//! `xemu run PROGRAM` runs a static x86-64 Linux program and ends with its status.
+//! `xemu run [OPTIONS] PROGRAM [WORDS]` runs a static x86-64 Linux program and ends with its status.
 #![tactic(auto)]
 
 use host_edge::{FileHost, FileSink, FileSource};

@@ -1,5 +1,5 @@
 -- The counts of failed calls, from a load to the end of a command.
-use Rattle.std.proofs.Common.{◌≡◌, ◌<◌, ap, sym, subst, arith, refl, ℕ, suc, List, [], ◌∷◌, length, true, false, Option, Some, None, Result, Ok, Err, IsTrue, inl, inr}
+use Rattle.std.proofs.Common.{◌≡◌, ◌<◌, ap, sym, subst, arith, refl, ℕ, suc, List, [], ◌∷◌, length, false, Option, Some, None, Result, Ok, Err, IsTrue, inl, inr}
 use Rattle.host_edge.specs.declared.outside.HostCall.{HostCall}
 use Rattle.host_edge.specs.declared.outside.HostCall.TheVariants.{Load, PutOut, PutErr}
 use Rattle.host_edge.specs.Causes.{Counts, Rose}

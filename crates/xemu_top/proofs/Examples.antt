@@ -1,12 +1,12 @@
 -- What the written command gives for small programs, computed: the sample program, whole and cut, and words that are refused.
-use Rattle.std.proofs.Common.{◌≡◌, ℕ, List, [], ◌∷◌, map, take, Bool, if◌then◌else◌, Option, Some, None, refl, set}
+use Rattle.std.proofs.Common.{◌≡◌, ℕ, List, [], ◌∷◌, map, take, if◌then◌else◌, Option, Some, None, refl, set}
 use Rattle.std.specs.Prelude.{codes, ◌++◌}
 use Rattle.std.specs.Fmt.{decimal}
 use Rattle.std.specs.Cmp.Lexicographic.{pointwise}
 use Rattle.std.specs.Prelude.{nat_eq}
 use Rattle.std.specs.Option.{option_map}
 use Rattle.host_edge.specs.declared.outside.HostCall.{HostCall}
-use Rattle.host_edge.specs.declared.outside.HostCall.TheVariants.{Load, PutOut}
+use Rattle.host_edge.specs.declared.outside.HostCall.TheVariants.{Load, PutOut, PutErr}
 use Rattle.machine_state.specs.Memory.{first_miss, bytes_at, allowed_run}
 use Rattle.machine_state.specs.World.{first_descriptors}
 use Rattle.machine_state.specs.State.{State}
@@ -117,16 +117,30 @@ word_refused word kind line = ended (Words (record { word = word; kind = kind })
 abbrev image_refused : (number place : ℕ) → List ℕ → Shown
 image_refused number place line = ended (Image (record { number = number; place = place })) 65 [] line None
 
+-- a piece of a command's work: the calls on the outside in it, and what stands on output and error output then
+pub record ShownPiece : Type 0 where
+  pub calls : List HostCall
+  pub output : List ℕ
+  pub lines : List ℕ
+
+abbrev piece : List HostCall → (output lines : List ℕ) → ShownPiece
+piece calls output lines = record { calls = calls; output = output; lines = lines }
+
+abbrev hello_text : List ℕ
+hello_text = codes "hello\n"
+
 -- the sample program prints its text and exits; it is stopped by its budget; and words and a path that are refused
-on_hello : map (shown hello) (
-      (codes "run" ∷ codes "hello" ∷ [])
-      ∷ (codes "run" ∷ codes "--budget" ∷ codes "3" ∷ codes "--report" ∷ codes "hello" ∷ [])
-      ∷ (codes "run" ∷ codes "--budget" ∷ codes "7" ∷ codes "hello" ∷ [])
-      ∷ (codes "run" ∷ codes "--budget" ∷ codes "8" ∷ codes "--report" ∷ codes "hello" ∷ [])
-      ∷ (codes "run" ∷ codes "--budget" ∷ codes "07" ∷ codes "hello" ∷ [])
-      ∷ (codes "run" ∷ codes "--fast" ∷ codes "hello" ∷ [])
-      ∷ (codes "run" ∷ codes "none" ∷ [])
-      ∷ [])
+abbrev OnHello : Type 0
+OnHello =
+    map (shown hello) (
+    (codes "run" ∷ codes "hello" ∷ [])
+    ∷ (codes "run" ∷ codes "--budget" ∷ codes "3" ∷ codes "--report" ∷ codes "hello" ∷ [])
+    ∷ (codes "run" ∷ codes "--budget" ∷ codes "7" ∷ codes "hello" ∷ [])
+    ∷ (codes "run" ∷ codes "--budget" ∷ codes "8" ∷ codes "--report" ∷ codes "hello" ∷ [])
+    ∷ (codes "run" ∷ codes "--budget" ∷ codes "07" ∷ codes "hello" ∷ [])
+    ∷ (codes "run" ∷ codes "--fast" ∷ codes "hello" ∷ [])
+    ∷ (codes "run" ∷ codes "none" ∷ [])
+    ∷ [])
     ≡ ended (Exit 0) 0 (codes "hello\n") [] (Some 8)
     ∷ ended Budget 75 [] (codes "xemu: budget " ++ decimal 3 ++ codes "\n") (Some 3)
     ∷ ended Budget 75 (codes "hello\n") [] (Some 7)
@@ -135,13 +149,13 @@ on_hello : map (shown hello) (
     ∷ word_refused 1 2 (codes "xemu: words " ++ decimal 1 ++ codes " " ++ decimal 2 ++ codes "\n")
     ∷ ended (Host (Load 1)) 74 [] [] None
     ∷ []
-unfolding command first_state first_world first_descriptors run step called put_bytes put_answer allowed_run first_miss bytes_at act fetched performed performed_as is_misaligned plan_of core_way instruction_of instruction_by operand_for operand_at core_roles gpr_roles base_of scaled_index offset_of address_of accesses_of first_fault value_of core_outcome gpr_outcome scalar_of alu_scalar outcome_of gprs_left byte_left seen scanned within_limit fields_at lead_at in_front after head_at escape_at shaped_head of_rex shape_at tail_at optional_at chunk_at fields_of number_of signed_of encoding_of spelled matched fits lock_fits operation_locks writes_rm layout_of letters rows legacy one_byte two_byte three_byte vex_rows vex_0f vex_0f38 vex_0f3a evex_rows evex_0f evex_0f38 evex_0f3a option_named value_checks checks next_role taken read_from is_number is_number_within identity_checks file_checks fits_file is_placed header_checks program_checks has_room image_checks image_read field perms_of segment_at segments_before headers_at image_of strings stack_size addresses auxiliary_vector vector stack first_regions file_byte first_memory initial_x87 initial_extended words_line image_line start_line report_line
-on_hello = refl
 
--- files that are cut or edited: the first 63, 119 and 158 bytes and none, a core file; and code that no row has, and another call
-on_files : map (λ bytes. shown bytes (codes "run" ∷ codes "hello" ∷ [])) (
-      [] ∷ take 63 hello ∷ take 119 hello ∷ take 158 hello ∷ set hello 16 4
-      ∷ set (set (set hello 120 15) 121 88) 122 193 ∷ set hello 121 7 ∷ [])
+-- files that are cut or edited: none, the first 63, 119 and 158 bytes, a core file; and code that no row has, and another call
+abbrev OnFiles : Type 0
+OnFiles =
+    map (λ bytes. shown bytes (codes "run" ∷ codes "hello" ∷ [])) (
+    [] ∷ take 63 hello ∷ take 119 hello ∷ take 158 hello ∷ set hello 16 4
+    ∷ set (set (set hello 120 15) 121 88) 122 193 ∷ set hello 121 7 ∷ [])
     ≡ image_refused 1 0 (codes "xemu: image " ++ decimal 1 ++ codes " at " ++ decimal 0 ++ codes "\n")
     ∷ image_refused 1 63 (codes "xemu: image " ++ decimal 1 ++ codes " at " ++ decimal 63 ++ codes "\n")
     ∷ image_refused 10 32 (codes "xemu: image " ++ decimal 10 ++ codes " at " ++ decimal 32 ++ codes "\n")
@@ -150,5 +164,16 @@ on_files : map (λ bytes. shown bytes (codes "run" ∷ codes "hello" ∷ [])) (
     ∷ ended (Killed 4) 132 [] [] (Some 1)
     ∷ ended (Exit 0) 0 [] [] (Some 8)
     ∷ []
-unfolding command first_state first_world first_descriptors run step called put_bytes put_answer allowed_run first_miss bytes_at act fetched performed performed_as is_misaligned plan_of core_way instruction_of instruction_by operand_for operand_at core_roles gpr_roles base_of scaled_index offset_of address_of accesses_of first_fault value_of core_outcome gpr_outcome scalar_of alu_scalar outcome_of gprs_left byte_left seen scanned within_limit fields_at lead_at in_front after head_at escape_at shaped_head of_rex shape_at tail_at optional_at chunk_at fields_of number_of signed_of encoding_of spelled matched fits lock_fits operation_locks writes_rm layout_of letters rows legacy one_byte two_byte three_byte vex_rows vex_0f vex_0f38 vex_0f3a evex_rows evex_0f evex_0f38 evex_0f3a option_named value_checks checks next_role taken read_from is_number is_number_within identity_checks file_checks fits_file is_placed header_checks program_checks has_room image_checks image_read field perms_of segment_at segments_before headers_at image_of strings stack_size addresses auxiliary_vector vector stack first_regions file_byte first_memory initial_x87 initial_extended words_line image_line start_line report_line
-on_files = refl
+
+-- the work of a command with a report is the load, eight steps, of which the fifth puts the text, and the line
+abbrev OnTrail : Type 0
+OnTrail =
+    map (λ (p : Piece). piece p.calls p.after.out p.after.err) (trail (codes "run" ∷ codes "--report" ∷ codes "hello" ∷ []) (with_file hello))
+    ≡ piece (Load 2 ∷ []) [] [] ∷ piece [] [] [] ∷ piece [] [] [] ∷ piece [] [] [] ∷ piece [] [] []
+    ∷ piece (PutOut ∷ []) hello_text [] ∷ piece [] hello_text [] ∷ piece [] hello_text [] ∷ piece [] hello_text []
+    ∷ piece (PutErr ∷ []) hello_text (codes "xemu: exit " ++ decimal 0 ++ codes " steps " ++ decimal 8 ++ codes "\n") ∷ []
+
+-- all of it is computed
+worked : OnHello × OnFiles × OnTrail
+unfolding command first_state first_world first_descriptors run step called put_bytes put_answer allowed_run first_miss bytes_at act fetched performed performed_as is_misaligned plan_of core_way instruction_of instruction_by operand_for operand_at core_roles gpr_roles base_of scaled_index offset_of address_of accesses_of first_fault value_of core_outcome gpr_outcome scalar_of alu_scalar outcome_of gprs_left byte_left seen scanned within_limit fields_at lead_at in_front after head_at escape_at shaped_head of_rex shape_at tail_at optional_at chunk_at fields_of number_of signed_of encoding_of spelled matched fits lock_fits operation_locks writes_rm layout_of letters rows legacy one_byte two_byte three_byte vex_rows vex_0f vex_0f38 vex_0f3a evex_rows evex_0f evex_0f38 evex_0f3a option_named value_checks checks next_role taken read_from is_number is_number_within identity_checks file_checks fits_file is_placed header_checks program_checks has_room image_checks image_read field perms_of segment_at segments_before headers_at image_of strings stack_size addresses auxiliary_vector vector stack first_regions file_byte first_memory initial_x87 initial_extended words_line image_line start_line report_line run_trail calls_in_step calls_in_call trail
+worked = (refl, refl, refl)

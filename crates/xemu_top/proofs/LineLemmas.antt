@@ -1,18 +1,17 @@
 -- Lines on the error output, and the ends of commands that they say.
-use Rattle.std.proofs.Common.{◌≡◌, ◌∙◌, ℕ, zero, suc, ◌++◌, ◌≤◌, List, [], ◌∷◌, Bool, true, false, Option, Some, None, Result, Ok, Err, IsSome, is_some, refl, sym, ap, subst, arith, take, drop, append-nil}
+use Rattle.std.proofs.Common.{◌≡◌, ℕ, ◌++◌, List, [], ◌∷◌, true, false, Option, None, Ok, Err, refl, sym, ap, subst, arith, take, drop, append-nil}
 use Rattle.host_edge.specs.declared.outside.HostCall.{HostCall}
 use Rattle.host_edge.specs.declared.outside.HostCall.TheVariants.{PutErr}
 use Rattle.host_edge.specs.Causes.{Rose}
 use Rattle.host_edge.specs.Streams.{Puts}
-use Rattle.guest_run.specs.Outside.{Outside, Leaves}
-use Rattle.guest_run.specs.Trail.{Piece, FailsIn, FailsOn}
-use Rattle.guest_run.specs.Following.{Beside, Course, SinkPair, sinks}
+use Rattle.guest_run.specs.Outside.{Leaves}
+use Rattle.guest_run.specs.Trail.{FailsOn}
+use Rattle.guest_run.specs.Following.{Beside, SinkPair, sinks}
 use Rattle.guest_run.proofs.FollowLemmas.{told-all, told-front, front-whole}
 use Rattle.xemu_top.specs.declared.ends.End.{End}
 use Rattle.xemu_top.specs.declared.ends.End.TheVariants.{Exit, Killed, Budget, Words, Image, Start, Host, Memory}
-use Rattle.xemu_top.specs.declared.ends.Ended.{Ended}
-use Rattle.xemu_top.specs.Command.{said, refused, line_piece, status_of}
-use Rattle.xemu_top.specs.Headline.{MeetsWork, failed_call, is_own, is_refusal}
+use Rattle.xemu_top.specs.Command.{refused, line_piece, status_of}
+use Rattle.xemu_top.specs.Headline.{failed_call, is_refusal}
 use Rattle.xemu_top.specs.Parts.{DoesWork, Says, stopped}
 
 module _ (E : Type 0) (out : Option (List ℕ)) (out_faults : ℕ) (given given' : Option (List ℕ)) (faults faults' : ℕ) (line : List ℕ) where

@@ -4,7 +4,6 @@ use Rattle.std.proofs.lemmas.Bool.{le-leb, lt-leb}
 use Rattle.machine_state.specs.declared.kinds.GuestEnd.{GuestEnd}
 use Rattle.host_edge.specs.declared.outside.HostCall.{HostCall}
 use Rattle.host_edge.specs.declared.outside.HostCall.TheVariants.{Load}
-use Rattle.machine_state.specs.Memory.{Swap}
 use Rattle.machine_state.specs.State.{State}
 use Rattle.machine_state.specs.World.{World}
 use Rattle.host_edge.specs.Files.{Held}
@@ -21,9 +20,9 @@ use Rattle.program_load.specs.Load.{Program, first_world}
 use Rattle.guest_run.specs.declared.ends.RunEnd.{RunEnd}
 use Rattle.guest_run.specs.GuestValue.{GuestValue}
 use Rattle.guest_run.specs.Run.{run}
-use Rattle.guest_run.specs.Outside.{Files, Outside, outside, Leaves}
+use Rattle.guest_run.specs.Outside.{Outside, outside, Leaves}
 use Rattle.guest_run.specs.Trail.{Piece, FailsIn, FailsOn, run_trail}
-use Rattle.guest_run.specs.Following.{Beside, Course, EachSwap, HasState, Runs, SinkPair, guest_end, is_stopped, run_end, stopped_by}
+use Rattle.guest_run.specs.Following.{Beside, Course, EachSwap, Runs, SinkPair, guest_end, is_stopped, run_end, stopped_by}
 use Rattle.guest_run.specs.Guests.{GuestRuns, GuestRunsAs}
 use Rattle.guest_run.specs.Starting.{IsPrepared, stack_fault, program_from}
 use Rattle.command_words.specs.Command.{arguments, environment}
@@ -31,11 +30,10 @@ use Rattle.guest_run.proofs.RunLemmas.{fails-later, course-then}
 use Rattle.guest_run.proofs.GuestLemmas.{runs-machine, guest_end-run_end}
 use Rattle.xemu_top.specs.declared.ends.End.{End}
 use Rattle.xemu_top.specs.declared.ends.Ended.{Ended}
-use Rattle.xemu_top.specs.declared.loading.Loaded.{Loaded}
 use Rattle.xemu_top.specs.Lines.{report_line, start_line}
-use Rattle.xemu_top.specs.Command.{Outcome, said, refused, program_of, ran, run_of, reported, report_trail, ran_trail, end_of, line_piece, command, trail, on_words, words_trail, on_file, on_image, on_program, on_stack, file_trail, image_trail, program_trail, stack_trail, loaded_trail, load_piece, status_of}
+use Rattle.xemu_top.specs.Command.{Outcome, refused, program_of, ran, run_of, reported, report_trail, ran_trail, end_of, line_piece, command, trail, on_words, words_trail, on_file, on_image, on_program, on_stack, file_trail, image_trail, program_trail, stack_trail, load_piece}
 use Rattle.xemu_top.specs.Headline.{Meets, MeetsWork, is_own, is_refusal, failed_call, too_long}
-use Rattle.xemu_top.specs.Parts.{DoesWork, MeetsBeside, Says, Reported, ReportsRun, report_of, end_from, machine_after, finished, finished_by, stopped}
+use Rattle.xemu_top.specs.Parts.{DoesWork, Says, ReportsRun, report_of, end_from, machine_after, finished, finished_by, stopped}
 
 -- ---- calls that failed on a longer trail
 pub fails-front : (front behind : List Piece) (call : HostCall) (now : Outside) → FailsOn front call now → FailsOn (front ++ behind) call now

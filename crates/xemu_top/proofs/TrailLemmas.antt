@@ -1,5 +1,5 @@
 -- The pieces of a command's trail hang together.
-use Rattle.std.proofs.Common.{◌≡◌, ℕ, List, [], ◌∷◌, ◌++◌, Bool, true, false, Option, Some, None, Result, Ok, Err, refl, subst}
+use Rattle.std.proofs.Common.{◌≡◌, ℕ, List, [], ◌∷◌, Bool, true, false, Option, Some, None, Result, Ok, Err, refl, subst}
 use Rattle.command_words.specs.declared.kinds.Command.{Command}
 use Rattle.command_words.specs.declared.kinds.WordFault.{WordFault}
 use Rattle.command_words.specs.Reading.{words_read}
@@ -9,9 +9,8 @@ use Rattle.elf_image.specs.Checks.{image_read}
 use Rattle.start_stack.specs.declared.kinds.TooLong.{TooLong}
 use Rattle.program_load.specs.Load.{Program, first_world}
 use Rattle.guest_run.specs.Call.{Ran}
-use Rattle.guest_run.specs.Run.{run}
 use Rattle.guest_run.specs.Outside.{Outside, outside}
-use Rattle.guest_run.specs.Trail.{HangTogether, Piece, run_trail}
+use Rattle.guest_run.specs.Trail.{HangTogether, run_trail}
 use Rattle.guest_run.specs.Starting.{stack_fault}
 use Rattle.guest_run.proofs.TrailLemmas.{hang-none, hang-more, hang-append, run_hangs}
 use Rattle.xemu_top.specs.Command.{command, trail, said, line_piece, load_piece, reported, report_trail, ran, ran_trail, run_of, on_stack, stack_trail, on_image, image_trail, on_file, file_trail, on_words, words_trail, file_of, program_of}

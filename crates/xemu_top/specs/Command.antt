@@ -5,7 +5,6 @@ use Rattle.machine_state.specs.declared.kinds.GuestEnd.{GuestEnd}
 use Rattle.host_edge.specs.declared.outside.HostCall.{HostCall}
 use Rattle.host_edge.specs.declared.outside.HostCall.TheVariants.{Load, PutOut, PutErr}
 use Rattle.machine_state.specs.State.{State}
-use Rattle.machine_state.specs.World.{World}
 use Rattle.command_words.specs.declared.kinds.Command.{Command}
 use Rattle.command_words.specs.declared.kinds.WordFault.{WordFault}
 use Rattle.command_words.specs.Texts.{word_at}

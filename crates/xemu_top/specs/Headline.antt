@@ -1,5 +1,5 @@
 -- The headline: a run of the command is the written machine's run. And the cause of each end.
-use Rattle.std.specs.Prelude.{◌≡◌, ℕ, ◌<◌, ◌≤◌, ◌^◌, ◌⊎◌, ⊤, Bool, true, false, List, Option, Some, None, IsTrue, Result, Ok, Err}
+use Rattle.std.specs.Prelude.{◌≡◌, ℕ, ◌<◌, ◌^◌, ◌⊎◌, ⊤, Bool, true, false, List, Option, Some, None, IsTrue, Result, Ok, Err}
 use Rattle.host_edge.specs.declared.outside.HostCall.{HostCall}
 use Rattle.host_edge.specs.declared.outside.HostCall.TheVariants.{Load, PutErr}
 use Rattle.machine_state.specs.Memory.{Swap}
@@ -16,7 +16,6 @@ use Rattle.core_step.specs.declared.machine.Machine.{Machine}
 use Rattle.xemu_top.specs.declared.ends.End.{End}
 use Rattle.xemu_top.specs.declared.ends.End.TheVariants.{Exit, Killed, Budget, Words, Image, Start, Host, Memory}
 use Rattle.xemu_top.specs.declared.ends.Ended.{Ended}
-use Rattle.guest_run.specs.declared.ends.RunEnd.{RunEnd}
 use Rattle.guest_run.specs.Outside.{Files, Outside, Leaves}
 use Rattle.guest_run.specs.Trail.{Piece, FailsOn}
 use Rattle.xemu_top.specs.declared.loading.Loaded.{Loaded}

@@ -1,5 +1,5 @@
 -- The lines that the command puts on the error output, each with its line feed; numbers are decimal (this program's own).
-use Rattle.std.specs.Prelude.{ℕ, List, [], ◌∷◌, ◌++◌, Option, Some, None, codes}
+use Rattle.std.specs.Prelude.{ℕ, List, ◌++◌, Option, Some, None, codes}
 use Rattle.std.specs.Fmt.{decimal}
 use Rattle.machine_state.specs.declared.kinds.GuestEnd.{GuestEnd}
 use Rattle.machine_state.specs.declared.kinds.GuestEnd.TheVariants.{Exit, Killed}

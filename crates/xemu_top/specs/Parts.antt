@@ -1,5 +1,5 @@
 -- What the parts of the command do: each by an outcome and a trail of its own.
-use Rattle.std.specs.Prelude.{◌≡◌, ℕ, ◌≤◌, ⊤, Bool, true, false, List, Option, Some, None, Result, Ok, Err, OnOk, IfErr}
+use Rattle.std.specs.Prelude.{◌≡◌, ℕ, Bool, true, false, List, Option, Some, None, Result, Ok, Err, OnOk, IfErr}
 use Rattle.host_edge.specs.declared.outside.HostCall.{HostCall}
 use Rattle.host_edge.specs.declared.outside.HostCall.TheVariants.{PutErr}
 use Rattle.host_edge.specs.Files.{Held}

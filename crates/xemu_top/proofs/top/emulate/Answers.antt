@@ -1,10 +1,10 @@
-use Rattle.std.proofs.Common.{◌≡◌, ◌∙◌, sym, map, string_bytes, None, Ok, Err}
+use Rattle.std.proofs.Common.{◌∙◌, sym, map, string_bytes, None, Ok, Err}
 use Rattle.guest_run.specs.Tally.{tally}
 use Rattle.guest_run.specs.Following.{sinks}
 use Rattle.xemu_top.specs.Command.{file_of}
 use Rattle.xemu_top.specs.Loading.{IsLoaded}
 use Rattle.xemu_top.proofs.CountLemmas.{cause-after, cause-words, complete}
-use Rattle.xemu_top.proofs.TopLemmas.{meets-too_many, meets-read, held_of, files_told}
+use Rattle.xemu_top.proofs.TopLemmas.{meets-read, held_of, files_told}
 use Rattle.xemu_top.proofs.top.emulate.Goals as goal
 
 pub returns-in-Err-clause-headline : goal.returns-in-Err-clause-headline

@@ -1,5 +1,4 @@
-use Rattle.std.proofs.Common.{Ok}
-use Rattle.xemu_top.proofs.LineLemmas.{says-whole, says-front}
+use Rattle.xemu_top.proofs.LineLemmas.{says-front}
 use Rattle.xemu_top.proofs.top.say.Goals as goal
 
 pub returns-in-Err : goal.returns-in-Err
