@@ -2,7 +2,7 @@
 ghost use Rattle.std.specs.Prelude.{◌≡◌, IfOk, OnSome};
 ghost use Rattle.region_map.specs.Calls.{FitPages};
 ghost use Rattle.linux_calls.specs.Waiting.{Begins};
-ghost use Rattle.linux_calls.specs.declared.kinds.Stage;
+ghost use Rattle.linux_calls.specs.declared.kinds.Stage.TheVariants.{Start};
 
 mod cases;
 
@@ -43,7 +43,7 @@ fn call(
     err: &mut MemSink,
 ) -> CallEnd
     requires fit { FitPages guest.old.pages guest.old.regions.regions }
-    requires begins { guest.old.progress.stage ≡ Stage.Start }
+    requires begins { guest.old.progress.stage ≡ Start }
     ensures fit { FitPages guest.new.pages guest.new.regions.regions }
     ensures begins { Begins result guest.new.progress.stage }
 {
@@ -78,7 +78,7 @@ fn play(
     err: &mut MemSink,
 ) -> usize
     requires fit { FitPages guest.old.pages guest.old.regions.regions }
-    requires begins { guest.old.progress.stage ≡ Stage.Start }
+    requires begins { guest.old.progress.stage ≡ Start }
     ensures fit { FitPages guest.new.pages guest.new.regions.regions }
 {
     for (index, step) in steps.iter().enumerate() {
@@ -97,7 +97,7 @@ fn play(
 // A guest with so many frames and pages, of which none is mapped, a file `a` to read and a file `o` to write.
 fn make_guest(alloc: Global, frames: u32, pages: u32) -> Result<Guest, Fail>
     ensures fit { IfOk result (λ guest. FitPages guest.pages guest.regions.regions) }
-    ensures begins { IfOk result (λ guest. guest.progress.stage ≡ Stage.Start) }
+    ensures begins { IfOk result (λ guest. guest.progress.stage ≡ Start) }
 {
     if frames < 8 || frames > pages {
         return Err(Fail::from("too few frames"));
