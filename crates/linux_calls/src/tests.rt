@@ -161,23 +161,35 @@ fn files_are_opened_and_moved(rt: HostRuntime) -> Result<(), Fail> {
     Ok(())
 }
 
+// Sets some bytes, at most six, of what the records should be.
+fn lay(put: &mut [u8; 566], at: usize, bytes: &[u8]) {
+    if at < 560 && bytes.len() <= 6 {
+        put[at..at + bytes.len()].copy_from_slice(bytes);
+    }
+}
+
+// What uname, clock_gettime, fstat of the output, and arch_prctl write.
+fn record_bytes() -> [u8; 566] {
+    let mut put = [0; 566];
+    lay(&mut put, 0, b"Linux");
+    lay(&mut put, 65, b"xemu");
+    lay(&mut put, 130, b"6.1.0");
+    lay(&mut put, 195, b"#1");
+    lay(&mut put, 260, b"x86_64");
+    lay(&mut put, 325, b"(none)");
+    lay(&mut put, 390, &[3]);
+    lay(&mut put, 398, &[7]);
+    lay(&mut put, 422, &[1]);
+    lay(&mut put, 430, &[0x80, 0x11]);
+    lay(&mut put, 463, &[0x10]);
+    lay(&mut put, 550, &[0x34, 0x12]);
+    lay(&mut put, 558, &[0x21, 0x43]);
+    put
+}
+
 #[test]
 fn records_are_written(rt: HostRuntime) -> Result<(), Fail> {
-    let mut put = [0; 566];
-    put[..5].copy_from_slice(b"Linux");
-    put[65..69].copy_from_slice(b"xemu");
-    put[130..135].copy_from_slice(b"6.1.0");
-    put[195..197].copy_from_slice(b"#1");
-    put[260..266].copy_from_slice(b"x86_64");
-    put[325..331].copy_from_slice(b"(none)");
-    put[390] = 3;
-    put[398] = 7;
-    put[422] = 1;
-    put[430..432].copy_from_slice(&[0x80, 0x11]);
-    put[463] = 0x10;
-    put[550..552].copy_from_slice(&[0x34, 0x12]);
-    put[558..560].copy_from_slice(&[0x21, 0x43]);
-    assert!(rt; answers(rt.alloc(), records(), b"", &put)?);
+    assert!(rt; answers(rt.alloc(), records(), b"", &record_bytes())?);
     Ok(())
 }
 

@@ -6,6 +6,6 @@ use Rattle.linux_calls.proofs.tests.play.Given as goal
 -- the guest stands before a call
 abbrev pub invariant-loop-index : goal.invariant-loop-index
 invariant-loop-index l = record {
-    fit : FitPages l.guest.pages l.guest.regions.regions;
-    begins : l.guest.progress.stage ≡ Start;
+  fit : FitPages l.guest.pages l.guest.regions.regions;
+  begins : l.guest.progress.stage ≡ Start;
 }
