@@ -139,10 +139,21 @@ fn files(alloc: Global) -> Result<Files, AllocError> {
 
 // Whether a table's calls answer as it says, with this input, and put this output.
 fn answers(alloc: Global, steps: &[Step], given: &[u8], put: &[u8]) -> Result<bool, Fail> {
+    answers_in(alloc, 64, steps, given, put)
+}
+
+// The same, in a guest with so many pages.
+fn answers_in(
+    alloc: Global,
+    pages: u32,
+    steps: &[Step],
+    given: &[u8],
+    put: &[u8],
+) -> Result<bool, Fail> {
     let mut input = MemSource::new(alloc, given, 100, &[])?;
     let mut out = MemSink::new(alloc, 4096, &[])?;
     let mut err = MemSink::new(alloc, 4096, &[])?;
-    let mut guest = make_guest(alloc, 64, 64)?;
+    let mut guest = make_guest(alloc, 64, pages)?;
     let done = play(&mut guest, steps, &mut input, &mut out, &mut err);
     Ok(done == steps.len() && out.bytes() == put)
 }
@@ -217,6 +228,36 @@ fn other_numbers_are_no_calls(rt: HostRuntime) -> Result<(), Fail> {
     Ok(())
 }
 
+#[test]
+fn descriptors_run_out(rt: HostRuntime) -> Result<(), Fail> {
+    let mut steps = Vec::new(rt.alloc());
+    steps.push((9, [0x10000, 0x1000, 3, 0x32, 0, 0], 0x10000))?;
+    steps.push((0, [0, 0x10000, 2, 0, 0, 0], 2))?;
+    for number in 3..64 {
+        steps.push((2, [0x10000, 0, 0, 0, 0, 0], number))?;
+    }
+    steps.push((2, [0x10000, 0, 0, 0, 0, 0], -24))?;
+    assert!(rt; answers(rt.alloc(), &steps, b"a\0", b"")?);
+    Ok(())
+}
+
+// 1,100 pages of which every second one is made one to read, up to 1,023 regions; the last of them is long.
+#[test]
+fn regions_run_out(rt: HostRuntime) -> Result<(), Fail> {
+    let mut steps = Vec::new(rt.alloc());
+    steps.push((9, [0x100000, 0x44C000, 3, 0x32, 0, 0], 0x100000))?;
+    for place in 0..511 {
+        steps.push((10, [0x101000 + place * 0x2000, 0x1000, 1, 0, 0, 0], 0))?;
+    }
+    steps.push((10, [0x501000, 0x1000, 1, 0, 0, 0], -12))?;
+    steps.push((11, [0x501000, 0x1000, 0, 0, 0, 0], 0))?;
+    steps.push((11, [0x503000, 0x1000, 0, 0, 0, 0], -12))?;
+    steps.push((9, [0, 0x1000, 1, 0x22, 0, 0], -12))?;
+    steps.push((12, [0x21000, 0, 0, 0, 0, 0], 0x20000))?;
+    assert!(rt; answers_in(rt.alloc(), 2000, &steps, b"", b"")?);
+    Ok(())
+}
+
 // How a call ends behind another that is answered, in a guest with so many frames and 64 pages.
 fn second(
     alloc: Global,
@@ -237,7 +278,7 @@ fn second(
 #[test]
 fn calls_end_the_guest_wait_and_fail(rt: HostRuntime) -> Result<(), Fail> {
     let alloc = rt.alloc();
-    let mut out = MemSink::new(alloc, 100, &[(0, 2)])?;
+    let mut out = MemSink::new(alloc, 100, &[(1, 2)])?;
     let pages = (9, [0x10000, 0x9000, 3, 0x32, 0, 0], 0x10000);
     let exit = (60, [0x1FF, 0, 0, 0, 0, 0], 0);
     assert_eq!(rt;
