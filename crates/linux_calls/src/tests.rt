@@ -10,7 +10,8 @@ use crate::kinds::{CallEnd, Progress};
 use crate::world::{R8, R9, R10};
 use crate::{World, answer};
 use cases::{
-    Step, buffers, drawn, files as file_calls, lists, mapping, others, random, records, streams,
+    Step, buffers, drawn, files as file_calls, full, lists, mapping, others, random, records,
+    streams,
 };
 use gpr_flags::{Gprs, RAX, RDI, RDX, RSI};
 use guest_files::{Entry, Files};
@@ -238,6 +239,12 @@ fn descriptors_run_out(rt: HostRuntime) -> Result<(), Fail> {
     }
     steps.push((2, [0x10000, 0, 0, 0, 0, 0], -24))?;
     assert!(rt; answers(rt.alloc(), &steps, b"a\0", b"")?);
+    Ok(())
+}
+
+#[test]
+fn pages_run_out(rt: HostRuntime) -> Result<(), Fail> {
+    assert!(rt; answers_in(rt.alloc(), 512, full(), b"", b"")?);
     Ok(())
 }
 

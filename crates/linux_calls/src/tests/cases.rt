@@ -46,6 +46,19 @@ pub fn mapping() -> &'static [Step] {
     &MAPPING
 }
 
+static FULL: [Step; 5] = [
+    (9, [0x10000, 0x1000, 3, 0x32, 0, 0], 0x10000),
+    (9, [0x7FFFFFEFF000, 0x100000, 3, 0x32, 0, 0], 0x7FFFFFEFF000),
+    (9, [0, 0x200000, 3, 0x22, 0, 0], -12),
+    (9, [0, 0xFF000, 3, 0x22, 0, 0], 0x7FFFEFF01000),
+    (9, [0, 0x1000, 3, 0x22, 0, 0], -12),
+];
+
+/// With 512 pages, of which 257 are mapped first.
+pub fn full() -> &'static [Step] {
+    &FULL
+}
+
 static FILES: [Step; 52] = [
     (9, [0x10000, 0x1000, 3, 0x32, 0, 0], 65536),
     (0, [0, 0x10000, 0x110, 0, 0, 0], 272),
