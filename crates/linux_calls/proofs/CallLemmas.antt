@@ -16,7 +16,8 @@ use Rattle.linux_calls.specs.Mapping.{copy_rest}
 use Rattle.linux_calls.specs.Errnos.{enosys}
 use Rattle.linux_calls.specs.declared.kinds.Transfer.{Transfer}
 use Rattle.linux_calls.specs.View.{View, StandsFor, with_parts}
-use Rattle.linux_calls.specs.Waiting.{is_start, CanGoOnBy, IsNeeded, NeedsAtStart, NeedsBy, NeedsFor, NeedsIn, NeedsPathIn, NeedsRecord, NeedsRecordIn}
+use Rattle.linux_calls.specs.Waiting.{is_start, CanGoOnBy, IsNeeded, NeedsAtStart, NeedsBy, NeedsFor, NeedsIn, NeedsPathIn, NeedsRecord}
+use Rattle.linux_calls.specs.Waiting.{NeedsRecordIn}
 use Rattle.linux_calls.specs.Following.{Does, DoesPart, FollowsAt, exit_by, exit_of}
 use Rattle.linux_calls.specs.Outside.{Streams}
 use Rattle.linux_calls.specs.declared.kinds.Call.TheVariants.{Exit, ExitGroup}

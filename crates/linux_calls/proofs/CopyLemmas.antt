@@ -1,5 +1,7 @@
 -- Pages that are mapped, and files that are copied to them.
-use Rattle.std.proofs.Common.{◌≡◌, ◌≢◌, ℕ, zero, suc, ◌+◌, ◌-◌, ◌*◌, ◌/◌, ◌%◌, ◌^◌, ◌≤◌, ◌<◌, ◌==◌, ◌⊎◌, inl, inr, min, Bool, true, false, cond, not, ◌&&◌, List, [], ◌∷◌, length, Option, Some, None, Result, Ok, Err, refl, sym, ap, ◌∙◌, subst, arith, zero-add, nat_le, eq-eqb}
+use Rattle.std.proofs.Common.{◌≡◌, ◌≢◌, ℕ, zero, suc, ◌+◌, ◌-◌, ◌*◌, ◌/◌, ◌%◌, ◌^◌, ◌≤◌, ◌<◌, ◌==◌, ◌⊎◌, inl, inr, min, Bool, true, false}
+use Rattle.std.proofs.Common.{cond, not, ◌&&◌, List, [], ◌∷◌, length, Option, Some, None, Result, Ok, Err, refl, sym, ap, ◌∙◌, subst}
+use Rattle.std.proofs.Common.{arith, zero-add, nat_le, eq-eqb}
 use Rattle.std.proofs.lemmas.Bool.{cases_lt, cases_eq, le-leb, leb-true, ne_eqb}
 use Rattle.std.specs.Option.{option_map}
 use Rattle.machine_state.specs.Memory.{Swap, page_size, written}
@@ -15,13 +17,15 @@ use Rattle.guest_transfers.specs.declared.kinds.Stop.TheVariants.{Whole, Away}
 use Rattle.guest_transfers.proofs.Along.{from_inside, spread_front, spread_none, written-append}
 use Rattle.guest_transfers.proofs.FileLemmas.{none_behind}
 use Rattle.region_map.specs.Ranges.{changed_regions}
-use Rattle.region_map.specs.Calls.{RegionsValue, FitPages, IsChange, IsFreeBelow, IsHighest, NoneIn, PassLimits, highest_end, is_mapped, lowest_page, pages_up}
+use Rattle.region_map.specs.Calls.{RegionsValue, FitPages, IsChange, IsFreeBelow, IsHighest, NoneIn, PassLimits, highest_end, is_mapped}
+use Rattle.region_map.specs.Calls.{lowest_page, pages_up}
 use Rattle.linux_calls.specs.declared.kinds.Halt.{Halt}
 use Rattle.linux_calls.specs.declared.kinds.Halt.TheVariants.{Need, Refused, Failed as FailedHalt}
 use Rattle.linux_calls.specs.declared.kinds.Stage.TheVariants.{Copying}
 use Rattle.linux_calls.specs.Errnos.{enomem}
 use Rattle.linux_calls.specs.Call.{Called, gives, with_bytes, r9, rsi}
-use Rattle.linux_calls.specs.Mapping.{copy_rest, filled_from, given_end, is_free, last_below, mapped_at, mapped_descriptor, mmap_bytes, mmap_change, some_in}
+use Rattle.linux_calls.specs.Mapping.{copy_rest, filled_from, given_end, is_free, last_below, mapped_at, mapped_descriptor, mmap_bytes}
+use Rattle.linux_calls.specs.Mapping.{mmap_change, some_in}
 use Rattle.linux_calls.specs.Rest.{rest_of}
 use Rattle.linux_calls.specs.View.{View, with_parts}
 use Rattle.linux_calls.specs.Following.{DoesPart}

@@ -1,5 +1,6 @@
 -- The calls on the pages of memory.
-use Rattle.std.proofs.Common.{◌≡◌, ℕ, ◌+◌, ◌-◌, ◌*◌, ◌/◌, ◌%◌, ◌≤◌, ◌<◌, ◌==◌, true, false, not, ◌⊎◌, inl, inr, length, Ok, Err, refl, sym, ap, ◌∙◌, arith}
+use Rattle.std.proofs.Common.{◌≡◌, ℕ, ◌+◌, ◌-◌, ◌*◌, ◌/◌, ◌%◌, ◌≤◌, ◌<◌, ◌==◌, true, false, not, ◌⊎◌, inl, inr, length, Ok, Err, refl}
+use Rattle.std.proofs.Common.{sym, ap, ◌∙◌, arith}
 use Rattle.std.proofs.lemmas.Bool.{lt-ltb, le-ltb, cases_lt, ne_eqb}
 use Rattle.machine_state.specs.Memory.{Swap, page_size}
 use Rattle.machine_state.specs.World.{World}
@@ -11,7 +12,8 @@ use Rattle.region_map.specs.declared.kinds.ProtectFault.TheVariants.{Hole, Full 
 use Rattle.region_map.specs.declared.kinds.BreakFault.{BreakFault}
 use Rattle.region_map.specs.declared.kinds.BreakFault.TheVariants.{Below, Taken, Full as FullOfHeap}
 use Rattle.region_map.specs.Ranges.{changed_regions}
-use Rattle.region_map.specs.Calls.{RegionsValue, FitPages, IsChange, NoneIn, IsFirst, PassLimits, IsProtectFault, IsBreakFault, IsResized, HeapPasses, heap_pages, is_mapped, is_taken, highest_end, pages_up}
+use Rattle.region_map.specs.Calls.{RegionsValue, FitPages, IsChange, NoneIn, IsFirst, PassLimits, IsProtectFault, IsBreakFault, IsResized}
+use Rattle.region_map.specs.Calls.{HeapPasses, heap_pages, is_mapped, is_taken, highest_end, pages_up}
 use Rattle.linux_calls.specs.Errnos.{enomem}
 use Rattle.linux_calls.specs.Call.{gives, rdi, rsi}
 use Rattle.linux_calls.specs.Mapping.{protected, unmapped, some_in, break_stays, resized, resize_passes, mprotect_call, brk_call}

@@ -1,5 +1,6 @@
 -- A read from the input, in parts.
-use Rattle.std.proofs.Common.{◌≡◌, ℕ, ◌+◌, ◌-◌, ◌≤◌, ◌⊎◌, inl, inr, List, [], ◌++◌, length, take, drop, Option, Some, IsSome, Result, Ok, Err, refl, sym, ap, ◌∙◌, arith, length-append, take-append-drop}
+use Rattle.std.proofs.Common.{◌≡◌, ℕ, ◌+◌, ◌-◌, ◌≤◌, ◌⊎◌, inl, inr, List, [], ◌++◌, length, take, drop, Option, Some, IsSome, Result, Ok}
+use Rattle.std.proofs.Common.{Err, refl, sym, ap, ◌∙◌, arith, length-append, take-append-drop}
 use Rattle.std.proofs.Math.Seq.{take-append-add, drop-append-add}
 use Rattle.machine_state.specs.World.{World}
 use Rattle.host_edge.specs.Streams.{told}
@@ -22,7 +23,8 @@ use Rattle.linux_calls.specs.Rest.{transfer_of}
 use Rattle.linux_calls.specs.View.{View, with_parts}
 use Rattle.linux_calls.specs.Outside.{Standing, Streams, Grown, standing_in, with_standing}
 use Rattle.linux_calls.specs.Following.{Comes, Ends}
-use Rattle.linux_calls.proofs.MoveLemmas.{at_end, told_is, tells_itself, extends_none, world_moved, rest_moving, calls_made, taken_whole, dropped_whole}
+use Rattle.linux_calls.proofs.MoveLemmas.{at_end, told_is, tells_itself, extends_none, world_moved, rest_moving, calls_made, taken_whole}
+use Rattle.linux_calls.proofs.MoveLemmas.{dropped_whole}
 
 takes_whole : (pieces : List Piece) (from done : ℕ) (w : World) (bytes rest : List ℕ) → from + length bytes ≡ done → done ≤ asked pieces
     → (done ≡ asked pieces) ⊎ (rest ≡ []) → w.left ≡ bytes ++ rest

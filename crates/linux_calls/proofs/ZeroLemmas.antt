@@ -1,5 +1,6 @@
 -- Pages that become zeros.
-use Rattle.std.proofs.Common.{◌≡◌, ◌≢◌, ℕ, ◌+◌, ◌/◌, ◌≤◌, ◌<◌, ◌==◌, Bool, true, false, cond, ◌||◌, not, ◌⊎◌, inl, inr, List, length, Option, Some, None, IsSome, is_some, Ok, refl, sym, ap, ◌∙◌, subst, arith, add-zero, nat_le, eq-eqb}
+use Rattle.std.proofs.Common.{◌≡◌, ◌≢◌, ℕ, ◌+◌, ◌/◌, ◌≤◌, ◌<◌, ◌==◌, Bool, true, false, cond, ◌||◌, not, ◌⊎◌, inl, inr, List, length}
+use Rattle.std.proofs.Common.{Option, Some, None, IsSome, is_some, Ok, refl, sym, ap, ◌∙◌, subst, arith, add-zero, nat_le, eq-eqb}
 use Rattle.std.proofs.lemmas.Bool.{cases_lt, cases_eq, ne_eqb, le-leb}
 use Rattle.std.proofs.lemmas.Bool.Decides.{nat_tests}
 use Rattle.std.specs.Option.{option_map}

@@ -1,5 +1,6 @@
 -- How a call of the code follows the written one, whatever the swap holds.
-use Rattle.std.specs.Prelude.{◌≡◌, ◌+◌, ◌<◌, ◌^◌, ◌%◌, ℕ, Bool, if◌then◌else◌, List, Contains, length, slice_set, Option, Some, None, IsSome, is_some, Result, Ok, Err}
+use Rattle.std.specs.Prelude.{◌≡◌, ◌+◌, ◌<◌, ◌^◌, ◌%◌, ℕ, Bool, if◌then◌else◌, List, Contains, length, slice_set, Option, Some, None}
+use Rattle.std.specs.Prelude.{IsSome, is_some, Result, Ok, Err}
 use Rattle.std.specs.Int.{w64, cast_unsigned}
 use Rattle.machine_state.specs.declared.kinds.Miss.{Miss}
 use Rattle.machine_state.specs.declared.kinds.Miss.TheVariants.{Unmapped, Denied, NonCanonical, Away}
@@ -43,20 +44,24 @@ pub record Kept (old new : World) : Type 0 where
 -- nothing has changed
 abbrev pub Does : (Whole → Called) → View → View → Result ℕ Halt → Type 0
 Does work old new (Ok value) = (swap : Swap) (base : Whole) → work (with_parts swap old base) ≡ gives value (with_parts swap new base)
-Does work old new (Err (Refused errno)) = (swap : Swap) (base : Whole) → work (with_parts swap old base) ≡ refuses errno (with_parts swap new base)
+Does work old new (Err (Refused errno)) =
+    (swap : Swap) (base : Whole) → work (with_parts swap old base) ≡ refuses errno (with_parts swap new base)
 Does work old new (Err (Need slot)) = new ≡ old
 Does work old new (Err (Failed call)) = ⊥
 
 -- the same of a piece that never waits
 abbrev pub DoesAtOnce : (Whole → Called) → View → View → Result ℕ Errno → Type 0
 DoesAtOnce work old new (Ok value) = (swap : Swap) (base : Whole) → work (with_parts swap old base) ≡ gives value (with_parts swap new base)
-DoesAtOnce work old new (Err errno) = (swap : Swap) (base : Whole) → work (with_parts swap old base) ≡ refuses errno (with_parts swap new base)
+DoesAtOnce work old new (Err errno) =
+    (swap : Swap) (base : Whole) → work (with_parts swap old base) ≡ refuses errno (with_parts swap new base)
 
 -- the same of a call that may wait with a part of it done: what is left of it then is what was left of it before
 abbrev pub DoesPart : (Whole → Called) → View → View → Result ℕ Halt → Type 0
 DoesPart work old new (Ok value) = (swap : Swap) (base : Whole) → work (with_parts swap old base) ≡ gives value (with_parts swap new base)
-DoesPart work old new (Err (Refused errno)) = (swap : Swap) (base : Whole) → work (with_parts swap old base) ≡ refuses errno (with_parts swap new base)
-DoesPart work old new (Err (Need slot)) = (swap : Swap) (base : Whole) → rest_of new.progress (with_parts swap new base) ≡ work (with_parts swap old base)
+DoesPart work old new (Err (Refused errno)) =
+    (swap : Swap) (base : Whole) → work (with_parts swap old base) ≡ refuses errno (with_parts swap new base)
+DoesPart work old new (Err (Need slot)) =
+    (swap : Swap) (base : Whole) → rest_of new.progress (with_parts swap new base) ≡ work (with_parts swap old base)
 DoesPart work old new (Err (Failed call)) = ⊥
 
 -- what a miss makes of a call: it waits for a page that is away, and else it is refused
@@ -81,7 +86,8 @@ abbrev pub ComesTo : Called → Whole → Whole → ProgressValue → Result ℕ
 ComesTo to from now progress (Ok value) = to ≡ gives value now
 ComesTo to from now progress (Err (Refused errno)) = to ≡ refuses errno now
 ComesTo to from now progress (Err (Need slot)) = (rest_of progress now ≡ to) × Grown (standing_in from) (standing_in now)
-ComesTo to from now progress (Err (Failed call)) = Contains (calls_in_call from) call × Between (standing_in from) (standing_in to.world) (standing_in now)
+ComesTo to from now progress (Err (Failed call)) =
+    Contains (calls_in_call from) call × Between (standing_in from) (standing_in to.world) (standing_in now)
 
 -- the same from each world that parts and streams stand for, under a premise
 abbrev pub Comes : (Whole → Called) → Type 0 → View → View → Streams → Streams → Result ℕ Halt → Type 0
@@ -172,7 +178,8 @@ Ends StopFailed call old new result = (new ≡ old) × (result ≡ Err (Failed c
 
 -- the same of a transfer with a file, whose descriptor is left at the offset that it came to
 abbrev pub EndsAt : Stop → (fd at : ℕ) → Bool → View → View → Result ℕ Halt → Type 0
-EndsAt (StopWhole done) fd at moves old new result = (new ≡ record old { files = left_at moves old.files fd (at + done) }) × (result ≡ Ok done)
+EndsAt (StopWhole done) fd at moves old new result =
+    (new ≡ record old { files = left_at moves old.files fd (at + done) }) × (result ≡ Ok done)
 EndsAt (StopAway done slot) fd at moves old new result =
     (new ≡ record old { progress = record { stage = Moving done; pieces = old.progress.pieces } }) × (result ≡ Err (Need slot))
 EndsAt StopFailed fd at moves old new result = ⊥

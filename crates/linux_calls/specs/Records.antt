@@ -1,6 +1,7 @@
 -- The calls that write a record of fixed length, and those on the bases of FS and GS (Linux, uname(2), arch_prctl(2),
 -- clock_gettime(2), stat(2) of x86-64).
-use Rattle.std.specs.Prelude.{ℕ, ◌-◌, ◌*◌, ◌/◌, ◌%◌, ◌^◌, ◌==◌, Bool, not, ◌||◌, nat_le, if◌then◌else◌, List, [], ◌∷◌, ◌++◌, length, Option, is_none, replicate, codes, unwrap_or}
+use Rattle.std.specs.Prelude.{ℕ, ◌-◌, ◌*◌, ◌/◌, ◌%◌, ◌^◌, ◌==◌, Bool, not, ◌||◌, nat_le, if◌then◌else◌, List, [], ◌∷◌, ◌++◌, length}
+use Rattle.std.specs.Prelude.{Option, is_none, replicate, codes, unwrap_or}
 use Rattle.machine_state.specs.declared.kinds.Kind.TheVariants.{Write}
 use Rattle.machine_state.specs.Memory.{page_size, number_bytes}
 use Rattle.machine_state.specs.World.{World, place_at}

@@ -6,7 +6,9 @@ use Rattle.host_edge.specs.declared.outside.HostCall.TheVariants.{Take, PutOut, 
 use Rattle.guest_files.specs.Files.{FilesValue}
 use Rattle.guest_transfers.specs.declared.kinds.Piece.{Piece}
 use Rattle.linux_calls.specs.declared.kinds.Call.{Call}
-use Rattle.linux_calls.specs.declared.kinds.Call.TheVariants.{Read, Write, Open, Close, Fstat, Lseek, Mmap, Mprotect, Munmap, Brk, Ioctl, Pread64, Pwrite64, Readv, Writev, Madvise, Getpid, Exit, Uname, ArchPrctl, SetTidAddress, ClockGettime, ExitGroup, Openat, Getrandom}
+use Rattle.linux_calls.specs.declared.kinds.Call.TheVariants.{Read, Write, Open, Close, Fstat, Lseek, Mmap, Mprotect, Munmap, Brk, Ioctl}
+use Rattle.linux_calls.specs.declared.kinds.Call.TheVariants.{Pread64, Pwrite64, Readv, Writev, Madvise, Getpid, Exit, Uname, ArchPrctl}
+use Rattle.linux_calls.specs.declared.kinds.Call.TheVariants.{SetTidAddress, ClockGettime, ExitGroup, Openat, Getrandom}
 use Rattle.linux_calls.specs.declared.kinds.Stage.{Stage}
 use Rattle.linux_calls.specs.declared.kinds.Stage.TheVariants.{Start, Listing, Moving, Copying}
 use Rattle.linux_calls.specs.declared.kinds.Transfer.{Transfer}

@@ -2,7 +2,9 @@
 use Rattle.std.specs.Prelude.{ℕ, ◌%◌, ◌^◌, ◌==◌, Bool, true, false, if◌then◌else◌, List, [], ◌∷◌, Option, Some, None}
 use Rattle.machine_state.specs.World.{World}
 use Rattle.linux_calls.specs.declared.kinds.Call.{Call}
-use Rattle.linux_calls.specs.declared.kinds.Call.TheVariants.{Read, Write, Open, Close, Fstat, Lseek, Mmap, Mprotect, Munmap, Brk, Ioctl, Pread64, Pwrite64, Readv, Writev, Madvise, Getpid, Exit, Uname, ArchPrctl, SetTidAddress, ClockGettime, ExitGroup, Openat, Getrandom}
+use Rattle.linux_calls.specs.declared.kinds.Call.TheVariants.{Read, Write, Open, Close, Fstat, Lseek, Mmap, Mprotect, Munmap, Brk, Ioctl}
+use Rattle.linux_calls.specs.declared.kinds.Call.TheVariants.{Pread64, Pwrite64, Readv, Writev, Madvise, Getpid, Exit, Uname, ArchPrctl}
+use Rattle.linux_calls.specs.declared.kinds.Call.TheVariants.{SetTidAddress, ClockGettime, ExitGroup, Openat, Getrandom}
 use Rattle.linux_calls.specs.Errnos.{enosys}
 use Rattle.linux_calls.specs.Call.{Called, Exits, gives, refuses, rax, rdi}
 use Rattle.linux_calls.specs.FileCalls.{open_call, close_call, lseek_call, ioctl_call, openat_call}

@@ -1,6 +1,7 @@
 -- The calls that move bytes between memory and streams, files and the random stream (Linux, read(2), write(2), pread(2), pwrite(2),
 -- readv(2), writev(2), getrandom(2), in part).
-use Rattle.std.specs.Prelude.{ℕ, ◌+◌, ◌-◌, ◌*◌, ◌/◌, ◌%◌, ◌==◌, Bool, true, false, not, if◌then◌else◌, is_none, nat_lt, min, List, [], ◌∷◌, ◌++◌, take, drop, length, Option, Some, None, unwrap_or}
+use Rattle.std.specs.Prelude.{ℕ, ◌+◌, ◌-◌, ◌*◌, ◌/◌, ◌%◌, ◌==◌, Bool, true, false, not, if◌then◌else◌, is_none, nat_lt, min, List, []}
+use Rattle.std.specs.Prelude.{◌∷◌, ◌++◌, take, drop, length, Option, Some, None, unwrap_or}
 use Rattle.machine_state.specs.declared.kinds.Kind.{Kind}
 use Rattle.machine_state.specs.declared.kinds.Kind.TheVariants.{Read, Write}
 use Rattle.machine_state.specs.declared.kinds.Place.{Place}

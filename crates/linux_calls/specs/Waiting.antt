@@ -9,10 +9,13 @@ use Rattle.guest_files.specs.Files.{FilesValue}
 use Rattle.region_map.specs.Calls.{pages_up}
 use Rattle.guest_transfers.specs.Pieces.{are_allowed, asked, most_asked, part_at, single}
 use Rattle.guest_transfers.specs.Buffers.{most_buffers}
-use Rattle.guest_transfers.specs.Moves.{ReadsFile, WritesFile, IsMappedRange, PathWaits, ListWaits, record_place, away_access, blocked_access}
+use Rattle.guest_transfers.specs.Moves.{ReadsFile, WritesFile, IsMappedRange, PathWaits, ListWaits, record_place, away_access}
+use Rattle.guest_transfers.specs.Moves.{blocked_access}
 use Rattle.guest_transfers.specs.declared.kinds.Piece.{Piece}
 use Rattle.linux_calls.specs.declared.kinds.Call.{Call}
-use Rattle.linux_calls.specs.declared.kinds.Call.TheVariants.{Read, Write as WriteCall, Open, Close, Fstat, Lseek, Mmap, Mprotect, Munmap, Brk, Ioctl, Pread64, Pwrite64, Readv, Writev, Madvise, Getpid, Exit, Uname, ArchPrctl, SetTidAddress, ClockGettime, ExitGroup, Openat, Getrandom}
+use Rattle.linux_calls.specs.declared.kinds.Call.TheVariants.{Read, Write as WriteCall, Open, Close, Fstat, Lseek, Mmap, Mprotect, Munmap}
+use Rattle.linux_calls.specs.declared.kinds.Call.TheVariants.{Brk, Ioctl, Pread64, Pwrite64, Readv, Writev, Madvise, Getpid, Exit, Uname}
+use Rattle.linux_calls.specs.declared.kinds.Call.TheVariants.{ArchPrctl, SetTidAddress, ClockGettime, ExitGroup, Openat, Getrandom}
 use Rattle.linux_calls.specs.declared.kinds.CallEnd.{CallEnd}
 use Rattle.linux_calls.specs.declared.kinds.CallEnd.TheVariants.{Value, Exit as ExitEnd, Need as NeedEnd, Host}
 use Rattle.linux_calls.specs.declared.kinds.Halt.{Halt}
@@ -146,7 +149,8 @@ NeedsAtStart (Some call) v slot = NeedsFor call v slot
 -- the part of a transfer
 abbrev pub NeedsPart : Option Transfer → View → (done slot : ℕ) → Type 0
 NeedsPart None v done slot = ⊥
-NeedsPart (Some transfer) v done slot = blocked_access (table_of v.pages) (part_at (kind_of transfer) v.progress.pieces done) ≡ Some (Away slot)
+NeedsPart (Some transfer) v done slot =
+    blocked_access (table_of v.pages) (part_at (kind_of transfer) v.progress.pieces done) ≡ Some (Away slot)
 
 abbrev pub NeedsBy : Stage → View → (slot : ℕ) → Type 0
 NeedsBy Start v slot = NeedsAtStart (call_numbered (rax v.gprs)) v slot

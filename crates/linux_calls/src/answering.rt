@@ -6,7 +6,8 @@ ghost use Rattle.linux_calls.specs.Rest.{rest_of, transfer_of as transfer_of_spe
 ghost use Rattle.linux_calls.specs.Transfers.{begun, named_piece};
 ghost use Rattle.linux_calls.specs.Table.{act, call_numbered as call_numbered_spec, ends_guest};
 ghost use Rattle.linux_calls.specs.View.{view_of, FitParts, KeepsPages, SameParts};
-ghost use Rattle.linux_calls.specs.Following.{DoesAtOnce, DoesPart, FollowsAt, IsCaused, IsValue, Kept, Settles, StillTell, Works, answered_view, exit_of as exit_of_spec, failed_by, faults};
+ghost use Rattle.linux_calls.specs.Following.{DoesAtOnce, DoesPart, FollowsAt, IsCaused, IsValue, Kept, Settles, StillTell, Works};
+ghost use Rattle.linux_calls.specs.Following.{answered_view, exit_of as exit_of_spec, failed_by, faults};
 ghost use Rattle.linux_calls.specs.Waiting.{CanGoOn, IsQuick, IsSlow, NeedsAt, NeedsIn};
 
 use crate::copying::{copy_on, mmap};
@@ -131,7 +132,8 @@ fn getrandom<S: Source, O: Sink, E: Sink>(
     requires fit { FitParts (view_of w.old) }
     ensures { Works (act Call.Getrandom) w.old w.new
         (streams (S.left input.old) (O.taken out.old) (E.taken err.old)) (streams (S.left input.new) (O.taken out.new) (E.taken err.new))
-        (faults (S.faults input.old) (O.faults out.old) (E.faults err.old)) (faults (S.faults input.new) (O.faults out.new) (E.faults err.new)) result }
+        (faults (S.faults input.old) (O.faults out.old) (E.faults err.old))
+        (faults (S.faults input.new) (O.faults out.new) (E.faults err.new)) result }
 {
     if low(w.rdx()) > RANDOM_FLAGS {
         return Err(Halt::Refused(Errno::EINVAL));
@@ -155,7 +157,8 @@ fn moving<S: Source, O: Sink, E: Sink>(
     requires fit { FitParts (view_of w.old) }
     ensures { Works (begun transfer (named_piece (rsi w.old.gprs.now) (rdx w.old.gprs.now))) w.old w.new
         (streams (S.left input.old) (O.taken out.old) (E.taken err.old)) (streams (S.left input.new) (O.taken out.new) (E.taken err.new))
-        (faults (S.faults input.old) (O.faults out.old) (E.faults err.old)) (faults (S.faults input.new) (O.faults out.new) (E.faults err.new)) result }
+        (faults (S.faults input.old) (O.faults out.old) (E.faults err.old))
+        (faults (S.faults input.new) (O.faults out.new) (E.faults err.new)) result }
 {
     let piece = Piece {
         addr: w.rsi(),
@@ -178,7 +181,8 @@ fn perform<S: Source, O: Sink, E: Sink>(
     requires fit { FitParts (view_of w.old) }
     ensures { Works (act call) w.old w.new
         (streams (S.left input.old) (O.taken out.old) (E.taken err.old)) (streams (S.left input.new) (O.taken out.new) (E.taken err.new))
-        (faults (S.faults input.old) (O.faults out.old) (E.faults err.old)) (faults (S.faults input.new) (O.faults out.new) (E.faults err.new)) result }
+        (faults (S.faults input.old) (O.faults out.old) (E.faults err.old))
+        (faults (S.faults input.new) (O.faults out.new) (E.faults err.new)) result }
 {
     let transfer = transfer_of(w, 0);
     match call {
@@ -221,7 +225,8 @@ fn go_on<S: Source, O: Sink, E: Sink>(
     requires fit { FitParts (view_of w.old) }
     ensures { Works (rest_of w.old.progress.now) w.old w.new
         (streams (S.left input.old) (O.taken out.old) (E.taken err.old)) (streams (S.left input.new) (O.taken out.new) (E.taken err.new))
-        (faults (S.faults input.old) (O.faults out.old) (E.faults err.old)) (faults (S.faults input.new) (O.faults out.new) (E.faults err.new)) result }
+        (faults (S.faults input.old) (O.faults out.old) (E.faults err.old))
+        (faults (S.faults input.new) (O.faults out.new) (E.faults err.new)) result }
 {
     match w.progress.stage() {
         Stage::Start => match call_numbered(w.rax()) {
@@ -330,7 +335,8 @@ pub fn answer<S: Source, O: Sink, E: Sink>(
     ensures parts { SameParts w.old w.new }
     ensures pages { KeepsPages (view_of w.old) (view_of w.new) }
     ensures follows { FollowsAt (view_of w.old) (view_of w.new)
-        (streams (S.left input.old) (O.taken out.old) (E.taken err.old)) (streams (S.left input.new) (O.taken out.new) (E.taken err.new)) result }
+        (streams (S.left input.old) (O.taken out.old) (E.taken err.old))
+        (streams (S.left input.new) (O.taken out.new) (E.taken err.new)) result }
     ensures tells { StillTell (streams (S.left input.old) (O.taken out.old) (E.taken err.old))
         (streams (S.left input.new) (O.taken out.new) (E.taken err.new)) }
     ensures needs { NeedsAt (view_of w.new) result }

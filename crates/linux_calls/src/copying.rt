@@ -8,7 +8,9 @@ ghost use Rattle.guest_pages.specs.Pages.{table_of};
 ghost use Rattle.guest_transfers.specs.Moves.{IsMappedRange, ReadsFile};
 ghost use Rattle.region_map.specs.Calls.{highest_end, lowest_page, pages_up as up_of};
 ghost use Rattle.linux_calls.specs.Call.{is_page, r10, r9, rdi, rsi};
-ghost use Rattle.linux_calls.specs.Mapping.{copy_rest, file_refusal, filled_from, free_page as free_page_spec, is_anonymous as is_anonymous_spec, is_fixed as is_fixed_spec, is_free, mapped_at, mapped_descriptor, mmap_call, mmap_page as mmap_page_spec, mmap_refusal, place_refusal};
+ghost use Rattle.linux_calls.specs.Mapping.{copy_rest, file_refusal, filled_from, free_page as free_page_spec};
+ghost use Rattle.linux_calls.specs.Mapping.{is_anonymous as is_anonymous_spec, is_fixed as is_fixed_spec, is_free, mapped_at};
+ghost use Rattle.linux_calls.specs.Mapping.{mapped_descriptor, mmap_call, mmap_page as mmap_page_spec, mmap_refusal, place_refusal};
 ghost use Rattle.linux_calls.specs.View.{view_of, FitParts};
 ghost use Rattle.linux_calls.specs.Following.{DoesPart, Kept};
 ghost use Rattle.linux_calls.specs.Waiting.{CanCopy, NeedsIn, mapped_bytes};
@@ -188,7 +190,8 @@ fn map_at(w: &mut World, page: u64) -> Result<u64, Halt>
 fn check_mmap(w: &World) -> Result<(), Errno>
     ensures answer { result_err result ≡ mmap_refusal w.now.gprs.now w.now.files.now.places }
     ensures some { OnOk result (0 < rsi w.now.gprs.now) }
-    ensures file { OnOk result (is_anonymous_spec (r10 w.now.gprs.now) ≡ false → ReadsFile w.now.files.now (mapped_descriptor w.now.gprs.now)) }
+    ensures file { OnOk result (is_anonymous_spec (r10 w.now.gprs.now) ≡ false
+        → ReadsFile w.now.files.now (mapped_descriptor w.now.gprs.now)) }
     ensures low { OnOk result (is_fixed_spec (r10 w.now.gprs.now) ≡ true → lowest_page ≤ rdi w.now.gprs.now / page_size) }
     ensures high { OnOk result (is_fixed_spec (r10 w.now.gprs.now) ≡ true
         → rdi w.now.gprs.now / page_size + up_of (rsi w.now.gprs.now) ≤ highest_end) }

@@ -32,7 +32,8 @@ fn join<S: Source, O: Sink, E: Sink>(
     requires fit { FitParts (view_of w.old) }
     ensures { Works (joined_transfer transfer w.old.progress.now.pieces) w.old w.new
         (streams (S.left input.old) (O.taken out.old) (E.taken err.old)) (streams (S.left input.new) (O.taken out.new) (E.taken err.new))
-        (faults (S.faults input.old) (O.faults out.old) (E.faults err.old)) (faults (S.faults input.new) (O.faults out.new) (E.faults err.new)) result }
+        (faults (S.faults input.old) (O.faults out.old) (E.faults err.old))
+        (faults (S.faults input.new) (O.faults out.new) (E.faults err.new)) result }
 {
     if total_len(w.progress.pieces()) > MOST_ASKED {
         return Err(Halt::Refused(Errno::EINVAL));
@@ -56,7 +57,8 @@ pub(crate) fn list_on<S: Source, O: Sink, E: Sink>(
     requires fit { FitParts (view_of w.old) }
     ensures { Works (list_rest transfer w.old.progress.now.pieces) w.old w.new
         (streams (S.left input.old) (O.taken out.old) (E.taken err.old)) (streams (S.left input.new) (O.taken out.new) (E.taken err.new))
-        (faults (S.faults input.old) (O.faults out.old) (E.faults err.old)) (faults (S.faults input.new) (O.faults out.new) (E.faults err.new)) result }
+        (faults (S.faults input.old) (O.faults out.old) (E.faults err.old))
+        (faults (S.faults input.new) (O.faults out.new) (E.faults err.new)) result }
 {
     let addr = w.rsi();
     let count = w.rdx();
@@ -83,13 +85,15 @@ pub(crate) fn list_call<S: Source, O: Sink, E: Sink>(
     requires fit { FitParts (view_of w.old) }
     ensures { Works (listed transfer) w.old w.new
         (streams (S.left input.old) (O.taken out.old) (E.taken err.old)) (streams (S.left input.new) (O.taken out.new) (E.taken err.new))
-        (faults (S.faults input.old) (O.faults out.old) (E.faults err.old)) (faults (S.faults input.new) (O.faults out.new) (E.faults err.new)) result }
+        (faults (S.faults input.old) (O.faults out.old) (E.faults err.old))
+        (faults (S.faults input.new) (O.faults out.new) (E.faults err.new)) result }
 {
     match transfer {
         Some(transfer) => {
             if w.rdx() > MOST_BUFFERS as u64 {
                 return Err(Halt::Refused(Errno::EINVAL));
             }
+            // That rsi is a 64-bit number is told by reading it.
             let _ = w.rsi();
             w.progress.clear();
             list_on(w, transfer, input, out, err)

@@ -4,7 +4,8 @@ ghost use Rattle.machine_state.specs.Memory.{page_size};
 ghost use Rattle.guest_pages.specs.Table.{perms_in};
 ghost use Rattle.guest_pages.specs.Pages.{table_of};
 ghost use Rattle.region_map.specs.Calls.{highest_end};
-ghost use Rattle.linux_calls.specs.Mapping.{asked_perms as asked_perms_spec, discarded, is_file_page, is_hole as is_hole_spec, protected, some_in, unmapped, mprotect_call, munmap_call, brk_call, madvise_call};
+ghost use Rattle.linux_calls.specs.Mapping.{asked_perms as asked_perms_spec, discarded, is_file_page, is_hole as is_hole_spec, protected};
+ghost use Rattle.linux_calls.specs.Mapping.{some_in, unmapped, mprotect_call, munmap_call, brk_call, madvise_call};
 ghost use Rattle.linux_calls.specs.View.{view_of, FitParts};
 ghost use Rattle.linux_calls.specs.Following.{AreZeroed, DoesAtOnce, Kept};
 

@@ -1,6 +1,7 @@
 //! The calls open and openat.
 ghost use Rattle.std.specs.Prelude.{◌≡◌, ◌==◌, ◌||◌};
-ghost use Rattle.linux_calls.specs.FileCalls.{is_absolute as is_absolute_spec, open_call, openat_call, opened_call, opened_from, open_path_at};
+ghost use Rattle.linux_calls.specs.FileCalls.{is_absolute as is_absolute_spec, open_call, openat_call, opened_call, opened_from};
+ghost use Rattle.linux_calls.specs.FileCalls.{open_path_at};
 ghost use Rattle.linux_calls.specs.Call.{rdi, rsi};
 ghost use Rattle.linux_calls.specs.View.{view_of, FitParts};
 ghost use Rattle.linux_calls.specs.Following.{Does, DoesAtOnce, Kept};

@@ -2,7 +2,8 @@
 ghost use Rattle.std.specs.Prelude.{◌≡◌, length};
 ghost use Rattle.machine_state.specs.Memory.{number_bytes};
 ghost use Rattle.linux_calls.specs.Call.{rsi, rdi};
-ghost use Rattle.linux_calls.specs.Records.{put_record as put_record_call, fstat_call, stat_bytes, uname_call, uname_bytes, arch_prctl_call, clock_gettime_call, time_bytes};
+ghost use Rattle.linux_calls.specs.Records.{put_record as put_record_call, fstat_call, stat_bytes, uname_call, uname_bytes};
+ghost use Rattle.linux_calls.specs.Records.{arch_prctl_call, clock_gettime_call, time_bytes};
 ghost use Rattle.linux_calls.specs.View.{view_of, FitParts};
 ghost use Rattle.linux_calls.specs.Waiting.{NeedsRecordIn};
 ghost use Rattle.linux_calls.specs.Following.{Does, Kept, halt_of as halt_of_spec};

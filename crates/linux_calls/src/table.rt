@@ -2,7 +2,8 @@
 ghost use Rattle.std.specs.Prelude.{◌≡◌, Some};
 ghost use Rattle.linux_calls.specs.Rest.{call_transfer, transfer_of as transfer_of_spec};
 ghost use Rattle.linux_calls.specs.Table.{call_numbered as call_numbered_spec};
-ghost use Rattle.linux_calls.specs.Transfers.{read_through as read_through_spec, reads_at as reads_at_spec, write_through as write_through_spec, writes_at as writes_at_spec};
+ghost use Rattle.linux_calls.specs.Transfers.{read_through as read_through_spec, reads_at as reads_at_spec};
+ghost use Rattle.linux_calls.specs.Transfers.{write_through as write_through_spec, writes_at as writes_at_spec};
 
 use crate::kinds::{Call, Transfer};
 use crate::world::{R10, World, low};

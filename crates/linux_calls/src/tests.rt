@@ -2,7 +2,7 @@
 ghost use Rattle.std.specs.Prelude.{◌≡◌, IfOk, OnSome};
 ghost use Rattle.region_map.specs.Calls.{FitPages};
 ghost use Rattle.linux_calls.specs.Waiting.{Begins};
-ghost use Rattle.linux_calls.specs.declared.kinds.Stage;
+ghost use Rattle.linux_calls.specs.declared.kinds.Stage.TheVariants.{Start};
 
 mod cases;
 
@@ -10,7 +10,8 @@ use crate::kinds::{CallEnd, Progress};
 use crate::world::{R8, R9, R10};
 use crate::{World, answer};
 use cases::{
-    Step, buffers, drawn, files as file_calls, lists, mapping, others, random, records, streams,
+    Step, buffers, drawn, files as file_calls, full, lists, mapping, others, random, records,
+    streams,
 };
 use gpr_flags::{Gprs, RAX, RDI, RDX, RSI};
 use guest_files::{Entry, Files};
@@ -43,7 +44,7 @@ fn call(
     err: &mut MemSink,
 ) -> CallEnd
     requires fit { FitPages guest.old.pages guest.old.regions.regions }
-    requires begins { guest.old.progress.stage ≡ Stage.Start }
+    requires begins { guest.old.progress.stage ≡ Start }
     ensures fit { FitPages guest.new.pages guest.new.regions.regions }
     ensures begins { Begins result guest.new.progress.stage }
 {
@@ -78,7 +79,7 @@ fn play(
     err: &mut MemSink,
 ) -> usize
     requires fit { FitPages guest.old.pages guest.old.regions.regions }
-    requires begins { guest.old.progress.stage ≡ Stage.Start }
+    requires begins { guest.old.progress.stage ≡ Start }
     ensures fit { FitPages guest.new.pages guest.new.regions.regions }
 {
     for (index, step) in steps.iter().enumerate() {
@@ -97,7 +98,7 @@ fn play(
 // A guest with so many frames and pages, of which none is mapped, a file `a` to read and a file `o` to write.
 fn make_guest(alloc: Global, frames: u32, pages: u32) -> Result<Guest, Fail>
     ensures fit { IfOk result (λ guest. FitPages guest.pages guest.regions.regions) }
-    ensures begins { IfOk result (λ guest. guest.progress.stage ≡ Stage.Start) }
+    ensures begins { IfOk result (λ guest. guest.progress.stage ≡ Start) }
 {
     if frames < 8 || frames > pages {
         return Err(Fail::from("too few frames"));
@@ -139,10 +140,21 @@ fn files(alloc: Global) -> Result<Files, AllocError> {
 
 // Whether a table's calls answer as it says, with this input, and put this output.
 fn answers(alloc: Global, steps: &[Step], given: &[u8], put: &[u8]) -> Result<bool, Fail> {
+    answers_in(alloc, 64, steps, given, put)
+}
+
+// The same, in a guest with so many pages.
+fn answers_in(
+    alloc: Global,
+    pages: u32,
+    steps: &[Step],
+    given: &[u8],
+    put: &[u8],
+) -> Result<bool, Fail> {
     let mut input = MemSource::new(alloc, given, 100, &[])?;
     let mut out = MemSink::new(alloc, 4096, &[])?;
     let mut err = MemSink::new(alloc, 4096, &[])?;
-    let mut guest = make_guest(alloc, 64, 64)?;
+    let mut guest = make_guest(alloc, 64, pages)?;
     let done = play(&mut guest, steps, &mut input, &mut out, &mut err);
     Ok(done == steps.len() && out.bytes() == put)
 }
@@ -161,23 +173,35 @@ fn files_are_opened_and_moved(rt: HostRuntime) -> Result<(), Fail> {
     Ok(())
 }
 
+// Sets some bytes, at most six, of what the records should be.
+fn lay(put: &mut [u8; 566], at: usize, bytes: &[u8]) {
+    if at < 560 && bytes.len() <= 6 {
+        put[at..at + bytes.len()].copy_from_slice(bytes);
+    }
+}
+
+// What uname, clock_gettime, fstat of the output, and arch_prctl write.
+fn record_bytes() -> [u8; 566] {
+    let mut put = [0; 566];
+    lay(&mut put, 0, b"Linux");
+    lay(&mut put, 65, b"xemu");
+    lay(&mut put, 130, b"6.1.0");
+    lay(&mut put, 195, b"#1");
+    lay(&mut put, 260, b"x86_64");
+    lay(&mut put, 325, b"(none)");
+    lay(&mut put, 390, &[3]);
+    lay(&mut put, 398, &[7]);
+    lay(&mut put, 422, &[1]);
+    lay(&mut put, 430, &[0x80, 0x11]);
+    lay(&mut put, 463, &[0x10]);
+    lay(&mut put, 550, &[0x34, 0x12]);
+    lay(&mut put, 558, &[0x21, 0x43]);
+    put
+}
+
 #[test]
 fn records_are_written(rt: HostRuntime) -> Result<(), Fail> {
-    let mut put = [0; 566];
-    put[..5].copy_from_slice(b"Linux");
-    put[65..69].copy_from_slice(b"xemu");
-    put[130..135].copy_from_slice(b"6.1.0");
-    put[195..197].copy_from_slice(b"#1");
-    put[260..266].copy_from_slice(b"x86_64");
-    put[325..331].copy_from_slice(b"(none)");
-    put[390] = 3;
-    put[398] = 7;
-    put[422] = 1;
-    put[430..432].copy_from_slice(&[0x80, 0x11]);
-    put[463] = 0x10;
-    put[550..552].copy_from_slice(&[0x34, 0x12]);
-    put[558..560].copy_from_slice(&[0x21, 0x43]);
-    assert!(rt; answers(rt.alloc(), records(), b"", &put)?);
+    assert!(rt; answers(rt.alloc(), records(), b"", &record_bytes())?);
     Ok(())
 }
 
@@ -205,6 +229,42 @@ fn other_numbers_are_no_calls(rt: HostRuntime) -> Result<(), Fail> {
     Ok(())
 }
 
+#[test]
+fn descriptors_run_out(rt: HostRuntime) -> Result<(), Fail> {
+    let mut steps = Vec::new(rt.alloc());
+    steps.push((9, [0x10000, 0x1000, 3, 0x32, 0, 0], 0x10000))?;
+    steps.push((0, [0, 0x10000, 2, 0, 0, 0], 2))?;
+    for number in 3..64 {
+        steps.push((2, [0x10000, 0, 0, 0, 0, 0], number))?;
+    }
+    steps.push((2, [0x10000, 0, 0, 0, 0, 0], -24))?;
+    assert!(rt; answers(rt.alloc(), &steps, b"a\0", b"")?);
+    Ok(())
+}
+
+#[test]
+fn pages_run_out(rt: HostRuntime) -> Result<(), Fail> {
+    assert!(rt; answers_in(rt.alloc(), 512, full(), b"", b"")?);
+    Ok(())
+}
+
+// 1,100 pages of which every second one is made one to read, up to 1,023 regions; the last of them is long.
+#[test]
+fn regions_run_out(rt: HostRuntime) -> Result<(), Fail> {
+    let mut steps = Vec::new(rt.alloc());
+    steps.push((9, [0x100000, 0x44C000, 3, 0x32, 0, 0], 0x100000))?;
+    for place in 0..511 {
+        steps.push((10, [0x101000 + place * 0x2000, 0x1000, 1, 0, 0, 0], 0))?;
+    }
+    steps.push((10, [0x501000, 0x1000, 1, 0, 0, 0], -12))?;
+    steps.push((11, [0x501000, 0x1000, 0, 0, 0, 0], 0))?;
+    steps.push((11, [0x503000, 0x1000, 0, 0, 0, 0], -12))?;
+    steps.push((9, [0, 0x1000, 1, 0x22, 0, 0], -12))?;
+    steps.push((12, [0x21000, 0, 0, 0, 0, 0], 0x20000))?;
+    assert!(rt; answers_in(rt.alloc(), 2000, &steps, b"", b"")?);
+    Ok(())
+}
+
 // How a call ends behind another that is answered, in a guest with so many frames and 64 pages.
 fn second(
     alloc: Global,
@@ -225,7 +285,7 @@ fn second(
 #[test]
 fn calls_end_the_guest_wait_and_fail(rt: HostRuntime) -> Result<(), Fail> {
     let alloc = rt.alloc();
-    let mut out = MemSink::new(alloc, 100, &[(0, 2)])?;
+    let mut out = MemSink::new(alloc, 100, &[(1, 2)])?;
     let pages = (9, [0x10000, 0x9000, 3, 0x32, 0, 0], 0x10000);
     let exit = (60, [0x1FF, 0, 0, 0, 0, 0], 0);
     assert_eq!(rt;

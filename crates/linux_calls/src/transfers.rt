@@ -12,7 +12,8 @@ ghost use Rattle.guest_transfers.specs.Moves.{ReadsFile, WritesFile};
 ghost use Rattle.guest_transfers.specs.Pieces.{asked, most_asked, single};
 ghost use Rattle.linux_calls.specs.Outside.{streams};
 ghost use Rattle.linux_calls.specs.Rest.{transfer_of};
-ghost use Rattle.linux_calls.specs.Transfers.{begun, draws_rest, err_rest, kind_of as kind_of_spec, left_at, named_piece, out_rest, reads_rest, refusal_of, takes_rest, transfer_rest, transferred, writes_rest};
+ghost use Rattle.linux_calls.specs.Transfers.{begun, draws_rest, err_rest, kind_of as kind_of_spec, left_at, named_piece, out_rest};
+ghost use Rattle.linux_calls.specs.Transfers.{reads_rest, refusal_of, takes_rest, transfer_rest, transferred, writes_rest};
 ghost use Rattle.linux_calls.specs.View.{view_of, FitParts, SameParts};
 ghost use Rattle.linux_calls.specs.Following.{Comes, DoesPart, Ends, EndsAt, IsCaused, IsLowStop, Kept, Works, failed_in, faults};
 ghost use Rattle.linux_calls.specs.Waiting.{CanMove, HasOther, IsOne, NeedsIn};
@@ -145,7 +146,8 @@ fn finish_at(w: &mut World, stop: Stop, fd: u32, at: u64, moves: bool) -> Result
 // Goes on with a read from a file.
 fn read_on(w: &mut World, fd: u32, at: u64, moves: bool, from: u64) -> Result<u64, Halt>
     requires is { (done : ℕ) → transfer_of w.old.gprs.now w.old.files.now done ≡ Some (Transfer.Reads fd at moves) }
-    requires can { CanMove (Transfer.Reads fd at moves) (perms_in (table_of w.old.pages.now)) w.old.files.now w.old.progress.now.pieces from }
+    requires can { CanMove (Transfer.Reads fd at moves) (perms_in (table_of w.old.pages.now))
+        w.old.files.now w.old.progress.now.pieces from }
     requires fit { FitParts (view_of w.old) }
     ensures kept { Kept w.old w.new }
     ensures does { DoesPart (reads_rest fd at moves w.old.progress.now.pieces from) (view_of w.old) (view_of w.new) result }
@@ -159,7 +161,8 @@ fn read_on(w: &mut World, fd: u32, at: u64, moves: bool, from: u64) -> Result<u6
 // Goes on with a write to a file.
 fn write_on(w: &mut World, fd: u32, at: u64, moves: bool, from: u64) -> Result<u64, Halt>
     requires is { transfer_of w.old.gprs.now w.old.files.now from ≡ Some (Transfer.Writes fd at moves) }
-    requires can { CanMove (Transfer.Writes fd at moves) (perms_in (table_of w.old.pages.now)) w.old.files.now w.old.progress.now.pieces from }
+    requires can { CanMove (Transfer.Writes fd at moves) (perms_in (table_of w.old.pages.now))
+        w.old.files.now w.old.progress.now.pieces from }
     requires fit { FitParts (view_of w.old) }
     ensures kept { Kept w.old w.new }
     ensures does { DoesPart (writes_rest fd at moves w.old.progress.now.pieces from) (view_of w.old) (view_of w.new) result }
@@ -206,7 +209,8 @@ pub(crate) fn move_on<S: Source, O: Sink, E: Sink>(
     requires fit { FitParts (view_of w.old) }
     ensures { Works (transfer_rest transfer w.old.progress.now.pieces from) w.old w.new
         (streams (S.left input.old) (O.taken out.old) (E.taken err.old)) (streams (S.left input.new) (O.taken out.new) (E.taken err.new))
-        (faults (S.faults input.old) (O.faults out.old) (E.faults err.old)) (faults (S.faults input.new) (O.faults out.new) (E.faults err.new)) result }
+        (faults (S.faults input.old) (O.faults out.old) (E.faults err.old))
+        (faults (S.faults input.new) (O.faults out.new) (E.faults err.new)) result }
 {
     match transfer {
         Transfer::Takes => take_on(w, from, input),
@@ -299,7 +303,8 @@ pub(crate) fn begin<S: Source, O: Sink, E: Sink>(
     requires fit { FitParts (view_of w.old) }
     ensures { Works (transferred transfer w.old.progress.now.pieces) w.old w.new
         (streams (S.left input.old) (O.taken out.old) (E.taken err.old)) (streams (S.left input.new) (O.taken out.new) (E.taken err.new))
-        (faults (S.faults input.old) (O.faults out.old) (E.faults err.old)) (faults (S.faults input.new) (O.faults out.new) (E.faults err.new)) result }
+        (faults (S.faults input.old) (O.faults out.old) (E.faults err.old))
+        (faults (S.faults input.new) (O.faults out.new) (E.faults err.new)) result }
 {
     let count = total_len(w.progress.pieces());
     match check(w.files, transfer, count) {
@@ -327,7 +332,8 @@ pub(crate) fn transfer_call<S: Source, O: Sink, E: Sink>(
     requires fit { FitParts (view_of w.old) }
     ensures { Works (begun transfer (named_piece piece.addr piece.len)) w.old w.new
         (streams (S.left input.old) (O.taken out.old) (E.taken err.old)) (streams (S.left input.new) (O.taken out.new) (E.taken err.new))
-        (faults (S.faults input.old) (O.faults out.old) (E.faults err.old)) (faults (S.faults input.new) (O.faults out.new) (E.faults err.new)) result }
+        (faults (S.faults input.old) (O.faults out.old) (E.faults err.old))
+        (faults (S.faults input.new) (O.faults out.new) (E.faults err.new)) result }
 {
     match transfer {
         Some(transfer) => {

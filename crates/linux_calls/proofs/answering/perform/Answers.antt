@@ -2,7 +2,8 @@ use Rattle.std.proofs.Common.{◌∙◌, sym, ap, Option}
 use Rattle.linux_calls.specs.declared.kinds.Transfer.{Transfer}
 use Rattle.linux_calls.specs.declared.kinds.Call.TheVariants.{Read, Write, Pread64, Pwrite64, Readv, Writev}
 use Rattle.linux_calls.specs.Call.{low, rdi, rsi, rdx}
-use Rattle.linux_calls.specs.Transfers.{begun, listed, named_piece, read_call, write_call, pread64_call, pwrite64_call, readv_call, writev_call}
+use Rattle.linux_calls.specs.Transfers.{begun, listed, named_piece, read_call, write_call, pread64_call, pwrite64_call, readv_call}
+use Rattle.linux_calls.specs.Transfers.{writev_call}
 use Rattle.linux_calls.specs.View.{view_of, with_parts}
 use Rattle.linux_calls.proofs.WorkLemmas.{works_same}
 use Rattle.linux_calls.proofs.StartLemmas.{transfer_by}
