@@ -140,6 +140,13 @@ fn steps_of(ended: &Ended) -> Option<u64> {
     }
 }
 
+fn rip_of(ended: &Ended) -> Option<u64> {
+    match &ended.machine {
+        Some(machine) => Some(machine.rip),
+        None => None,
+    }
+}
+
 /// rip, rax, rdx and the flags.
 fn registers_of(ended: &Ended) -> Option<[u64; 4]> {
     match &ended.machine {
@@ -171,6 +178,23 @@ fn hello_prints_and_exits_and_its_variants_end_as_they_should(rt: HostRuntime) -
         assert_eq!(rt; left.err.bytes().len(), 0);
         assert_eq!(rt; steps_of(&left.ended), steps);
     }
+    Ok(())
+}
+
+/// The file is of the kind that may stand anywhere, with its segment and its entry at the lowest addresses.
+#[test]
+fn a_program_that_may_stand_anywhere_is_moved_up(rt: HostRuntime) -> Result<(), Fail> {
+    let movable: &[(usize, u8)] = &[(16, 3), (26, 0), (82, 0), (90, 0)];
+    let left = run_command(
+        rt.alloc(),
+        &["run", "hello"],
+        &hello_with(movable),
+        WIDE,
+        WIDE,
+    )?;
+    assert_eq!(rt; left.ended.end, End::Exit(0));
+    assert_eq!(rt; left.out.bytes(), "hello\n".as_bytes());
+    assert_eq!(rt; rip_of(&left.ended), Some(0x5555_5555_4099));
     Ok(())
 }
 
