@@ -24,6 +24,7 @@ use Rattle.core_step.specs.declared.machine.Machine.{Machine}
 use Rattle.core_step.specs.Act.{act, act_on}
 use Rattle.core_step.specs.Machine.{state_of}
 use Rattle.core_step.specs.Fetch.{IsRun, IsFetched, IsFetchFit, IsOutcome, NeedsPage, fetched, outcome, stopped}
+use Rattle.core_step.specs.Fetches.{Fetches}
 use Rattle.core_step.proofs.Steps.{IsDenial}
 
 -- there isn't both something and nothing
@@ -308,12 +309,6 @@ pub record IsRead (m : Machine) (into : List ℕ) (count : ℕ) (stop : Option M
   pub run : IsRun (table_of m.pages) m.rip (length into) count stop
   pub shown : (w : Swap) → take count into ≡ bytes_at (byte_of m.pages w) m.rip count
 
-pub record Fetches (m : Machine) (answer : Fetched) : Type 0 where
-  pub whole : (w : Swap) → IsFetched (state_of m w) answer
-  pub never : (w : Swap) (slot : ℕ) → fetched (state_of m w) ≡ Need slot → ⊥
-  pub need : (w : Swap) (slot : ℕ) → (answer ≡ Need slot) ↔ NeedsPage (table_of m.pages) (byte_of m.pages w) m.rip slot
-  pub fits : IsFetchFit answer
-
 pub fetches : (m : Machine) (into : List ℕ) (count : ℕ) (stop : Option Miss) (what : Seen) (answer : Fetched) → IsRead m into count stop
     → IsSeen (take count into) what → answer ≡ outcome what stop → Fetches m answer
 unfolding memory_of
@@ -348,3 +343,20 @@ fetches-all m into count stop answer read all of =
     let whole : take count into ≡ into = take_all count into (omega (arith, read.most)) in
     fetches m into count stop of.what answer read (subst (λ (bytes : List ℕ). IsSeen bytes of.what) (sym whole) of.seen)
     (of.is ∙ ap (outcome of.what) (sym none))
+
+-- and so they are where they could be read at once
+pub fetches-whole : (m : Machine) (bytes : List ℕ) (answer : Fetched)
+    → (blocked (table_of m.pages) Execute m.rip 15 ≡ None) × ((w : Swap) → bytes ≡ bytes_at (byte_of m.pages w) m.rip 15)
+    → IsOutcome bytes answer → Fetches m answer
+fetches-whole m bytes answer read of = fetches-all m bytes 15 None answer is-read refl of
+  where
+    count : length bytes ≡ 15
+    count = ap length (read.1 (λ slot. [])) ∙ length-bytes_at (byte_of m.pages (λ slot. [])) m.rip 15
+
+    is-read : IsRead m bytes 15 None
+    is-read = record {
+      most = count;
+      within = omega (arith, count);
+      run = record { ready = read.0; end = sym count };
+      shown = λ w. take_all 15 bytes (omega (arith, count)) ∙ read.1 w;
+    }

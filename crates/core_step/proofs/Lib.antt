@@ -7,3 +7,5 @@ pub mod Steps
 pub mod PageCounts
 pub mod FetchLemmas
 pub mod Performed
+pub mod Carried
+pub mod Takings

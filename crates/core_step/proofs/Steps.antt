@@ -26,6 +26,7 @@ use Rattle.core_step.specs.declared.kinds.Plan.{Plan}
 use Rattle.core_step.specs.Fits.{ActedFits}
 use Rattle.core_step.specs.Access.{access_fault, fault_or, first_fault, acted_by_miss}
 use Rattle.core_step.specs.Effect.{Effect, After, processor_of, left_by}
+use Rattle.core_step.specs.Plain.{steps_after}
 use Rattle.core_step.specs.Strings.{is_over, passed_over, iterated, strings_effect}
 use Rattle.core_step.specs.Plan.{plan_of, plan_accesses, effect_of}
 use Rattle.core_step.specs.Alignment.{is_misaligned}
@@ -154,6 +155,13 @@ stop-needs kind (Unmapped addr) slot = (λ e. cc, λ e. cc)
 stop-needs kind (Denied addr) slot = (λ e. cc, λ e. cc)
 stop-needs kind (NonCanonical addr) slot = (λ e. cc, λ e. cc)
 stop-needs kind (Away other) slot = (λ e. cc, λ e. cc)
+
+-- a stop isn't counted
+pub stopped-counts : (kind : Kind) (miss : Miss) (steps : ℕ) → steps_after (acted_by_miss kind miss) steps ≡ steps
+stopped-counts kind (Unmapped addr) steps = refl
+stopped-counts kind (Denied addr) steps = refl
+stopped-counts kind (NonCanonical addr) steps = refl
+stopped-counts kind (Away slot) steps = refl
 
 -- an answer that needs no page
 pub whole-own : (d : Decoded) (len : ℕ) (old new : Machine) (acted : Acted) → ((slot : ℕ) → acted ≡ Need slot → ⊥)

@@ -20,3 +20,5 @@ pub mod Act
 pub mod Kept
 pub mod Performed
 pub mod Machine
+pub mod Fetches
+pub mod Taken

@@ -6,7 +6,8 @@ use Rattle.machine_state.specs.declared.kinds.Miss.{Miss}
 use Rattle.machine_state.specs.declared.kinds.Miss.TheVariants.{Away}
 use Rattle.machine_state.specs.Memory.{page_size, Memory, Swap}
 use Rattle.machine_state.specs.State.{State}
-use Rattle.guest_pages.specs.Pages.{byte_of, memory_of}
+use Rattle.guest_pages.specs.Pages.{table_of, byte_of, memory_of}
+use Rattle.guest_pages.specs.Walk.{walk}
 use Rattle.guest_pages.specs.Changes.{KeepsTable}
 use Rattle.row_table.specs.declared.kinds.Row.{Row}
 use Rattle.row_table.specs.declared.kinds.Decoded.{Decoded}
@@ -18,7 +19,10 @@ use Rattle.machine_state.specs.declared.kinds.Access.{Access}
 use Rattle.machine_state.specs.declared.kinds.Stop.{Stop}
 use Rattle.core_step.specs.Effect.{Processor, Effect, After, state_with, left_by}
 use Rattle.core_step.specs.Plain.{steps_after}
-use Rattle.core_step.specs.Plan.{plan_of, plan_accesses}
+use Rattle.core_step.specs.declared.kinds.Plan.{Plan}
+use Rattle.core_step.specs.Fits.{PlanFits}
+use Rattle.core_step.specs.Access.{acted_by}
+use Rattle.core_step.specs.Plan.{plan_of, plan_accesses, effect_of}
 use Rattle.core_step.specs.Alignment.{is_misaligned}
 use Rattle.core_step.specs.Act.{performed}
 
@@ -72,6 +76,26 @@ away_in miss = None
 abbrev pub needed : Option Stop → Option ℕ
 needed None = None
 needed (Some stop) = away_in stop.miss
+
+-- ---- an instruction carried out
+-- its accesses can be made, and it leaves its effect
+pub record IsFinished (plan : Plan) (old new : Machine) (acted : Acted) : Type 0 where
+  pub ready : (w : Swap) → walk (table_of old.pages) (plan_accesses plan (state_of old w)) ≡ None
+  pub left : IsLeft old new acted (effect_of plan)
+
+-- the walk along its access list stops, and nothing changes
+pub record IsStopped (plan : Plan) (old new : Machine) (acted : Acted) : Type 0 where
+  pub stop : Stop
+  pub stops : (w : Swap) → walk (table_of old.pages) (plan_accesses plan (state_of old w)) ≡ Some stop
+  pub answer : acted ≡ acted_by stop
+  pub same : new ≡ old
+
+-- one of the two, of the instruction that is found in the state, whatever the swap
+pub record IsCarriedOut (plan : Swap → Plan) (old new : Machine) (acted : Acted) : Type 0 where
+  pub found : Plan
+  pub is : (w : Swap) → found ≡ plan w
+  pub fits : PlanFits found
+  pub end : IsFinished found old new acted ⊎ IsStopped found old new acted
 
 -- ---- an instruction depends on its accesses alone
 -- two memories agree on the bytes of an access, and on the permissions of its pages

@@ -23,30 +23,26 @@ struct Sighting {
 }
 
 impl Sighting {
-    fn of(bytes: &[u8]) -> Sighting
-        requires { length bytes.now ≡ most_bytes }
+    fn of(bytes: &[u8; LIMIT]) -> Sighting
         ensures bytes { result.bytes ≡ bytes.now }
         ensures kept { IsSighting result.bytes result.kept }
     {
-        let mut own = [0; LIMIT];
-        own.copy_from_slice(bytes);
-        let fetched = fetch_outcome(decode(&own), None);
+        let fetched = fetch_outcome(decode(bytes), None);
         Sighting {
-            bytes: own,
+            bytes: *bytes,
             kept: keep(&fetched),
         }
     }
 
     /// Whether it is one of these bytes.
-    fn is_of(&self, bytes: &[u8]) -> bool
+    fn is_of(&self, bytes: &[u8; LIMIT]) -> bool
         ensures { IsTrue result → self.now.bytes ≡ bytes.now }
     {
-        self.bytes[..] == bytes[..]
+        self.bytes == *bytes
     }
 
     /// Makes it one of these bytes, unless it is one already.
-    fn renew(&mut self, bytes: &[u8])
-        requires len { length bytes.now ≡ most_bytes }
+    fn renew(&mut self, bytes: &[u8; LIMIT])
         requires kept { IsSighting self.old.bytes self.old.kept }
         ensures bytes { self.new.bytes ≡ bytes.now }
         ensures kept { IsSighting self.new.bytes self.new.kept }
@@ -99,8 +95,7 @@ impl FetchCache {
 
     /// What comes of fifteen bytes that can be executed and stand at the address `at`. The address says where to look for what
     /// came of them before, and nothing more.
-    pub(crate) fn recall(&mut self, at: u64, bytes: &[u8]) -> &Kept
-        requires { length bytes.now ≡ most_bytes }
+    pub(crate) fn recall(&mut self, at: u64, bytes: &[u8; LIMIT]) -> &Kept
         ensures { IsSighting bytes.now result.now }
     {
         let sighting = &mut self.kept[(at % ROOM as u64) as usize];

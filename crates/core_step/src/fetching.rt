@@ -1,5 +1,6 @@
 //! The fetch of an instruction.
-ghost use Rattle.std.specs.Prelude.{◌≡◌, ◌<◌, ◌≤◌, ◌+◌, ◌-◌, ◌%◌, ℕ, take, length, None};
+ghost use Rattle.std.specs.Prelude.{◌≡◌, ◌<◌, ◌≤◌, ◌+◌, ◌-◌, ◌%◌, ℕ, take, length, None, IfSome};
+ghost use Rattle.form_scan.specs.Shaped.{most_bytes};
 ghost use Rattle.machine_state.specs.Memory.{page_size, Swap, bytes_at};
 ghost use Rattle.guest_pages.specs.Table.{blocked};
 ghost use Rattle.guest_pages.specs.Pages.{table_of, byte_of};
@@ -10,7 +11,7 @@ use gpr_flags::Fault;
 use guest_pages::Pages;
 use machine_state::{Kind, Miss, PAGE_SIZE};
 use row_table::Decoded;
-use x_decode::Seen;
+use x_decode::{LIMIT, Seen};
 
 /// How a fetch ends.
 #[derive(Clone, Copy)]
@@ -27,6 +28,23 @@ pub enum Fetched {
 pub struct Run {
     pub count: usize,
     pub stop: Option<Miss>,
+}
+
+// The fifteen bytes from an address up, where they lie on one page and can be executed now.
+#[inline(always)]
+pub(crate) fn read_whole(pages: &Pages, addr: u64) -> Option<[u8; LIMIT]>
+    ensures { IfSome result (λ bytes. (blocked (table_of pages.now) Kind.Execute addr most_bytes ≡ None)
+        × ((w : Swap) → bytes ≡ bytes_at (byte_of pages.now w) addr most_bytes)) }
+{
+    if count_on_page(addr, LIMIT) < LIMIT {
+        return None;
+    }
+    let mut own = [0; LIMIT];
+    match pages.view(addr, LIMIT, Kind::Execute) {
+        Ok(bytes) => own.copy_from_slice(bytes),
+        Err(_) => return None,
+    }
+    Some(own)
 }
 
 // Reads the executable bytes from an address up, as far as they can be had now. Each page is looked at once.

@@ -23,6 +23,7 @@ mod results;
 mod roles;
 mod sizes;
 mod strings;
+mod taking;
 #[cfg(test)]
 mod tests;
 mod values;

@@ -17,33 +17,39 @@ ghost use Rattle.core_step.specs.Pair.{pair_bytes, pair_effect};
 ghost use Rattle.core_step.specs.Vectors.{vectors_effect, clears_effect};
 ghost use Rattle.vec_step.specs.Plan.{vector_access};
 ghost use Rattle.vec_step.specs.Fits.{PlanFits as VectorPlanFits};
-ghost use Rattle.core_step.specs.Plan.{plan_accesses, effect_of};
+ghost use Rattle.core_step.specs.Plan.{next_of};
 ghost use Rattle.core_step.specs.Pages.{TouchesAtMost, fetch_accesses};
-ghost use Rattle.core_step.specs.Fits.{InstructionFits, PlanFits};
+ghost use Rattle.core_step.specs.Fits.{InstructionFits};
 ghost use Rattle.core_step.specs.Fetch.{NeedsPage, IsFetched, IsFetchFit, fetched};
+ghost use Rattle.core_step.specs.Fetches.{Fetches};
 ghost use Rattle.core_step.specs.Performed.{IsPerformed};
-ghost use Rattle.core_step.specs.Forms.{IsPrepared};
+ghost use Rattle.core_step.specs.Taken.{AreTaken};
+ghost use Rattle.core_step.specs.Forms.{plain_by, strings_by, pair_by, vectors_by, plan_by_form, AddressFits, MemoryFits, PlainFormFits, PlanFormFits, IsPrepared};
+ghost use Rattle.core_step.specs.declared.kinds.Plan.{Plan};
+ghost use Rattle.vec_units.specs.Form.{IsVectorRow};
 ghost use Rattle.core_step.specs.Kept.{fetched_of, IsKeptFit};
 ghost use Rattle.row_table.specs.declared.kinds.Row.{Row as AnyRow};
-ghost use Rattle.core_step.specs.Machine.{IsWhole, IsLeft, IsLocal, IsFramed, accesses, needed, state_of};
+ghost use Rattle.core_step.specs.Machine.{IsWhole, IsLeft, IsCarriedOut, IsLocal, IsFramed, accesses, needed, state_of};
 
 use crate::acted::Acted;
 use crate::fetch_cache::FetchCache;
-use crate::fetching::{Fetched, fetch_outcome, read_run};
-use crate::kinds::{ClearPlan, Instruction, Outcome, Plan};
+use crate::fetching::{Fetched, fetch_outcome, read_run, read_whole};
+use crate::forms::{PairForm, PlainForm, PlanForm, StringForm, VectorForm};
+use crate::kinds::{ClearPlan, Instruction, Outcome};
 use crate::pair::PairPlan;
 use crate::prepared::{Kept, Prepared};
 use crate::preparing::prepare;
 use crate::results::outcome;
 use crate::strings::StringPlan;
+use crate::taking::Taken;
 use crate::values::{move_stack, number_for, put, put_register};
 use crate::walking::answer;
 use gpr_flags::{Fault, Flags, Gprs};
 use guest_pages::Pages;
 use machine_state::Kind;
-use row_table::Decoded;
+use row_table::{Decoded, Fields};
 use vec_file::VecFile;
-use vec_step::{VectorPlan, clear, perform as perform_vectors};
+use vec_step::{Clearing, VectorPlan, clear, perform as perform_vectors, walk as walk_vectors};
 use x_decode::{LIMIT, decode};
 
 /// The processor with its memory: general registers, flags, instruction pointer, extended state, pages, the bases of the
@@ -86,6 +92,18 @@ impl Machine {
             ↔ NeedsPage (table_of self.now.pages) (byte_of self.now.pages w) self.now.rip slot }
         ensures fits { IsFetchFit (fetched_of result.now) }
         ensures few { TouchesAtMost 2 (fetch_accesses self.now.rip) }
+        ensures kept { IsKeptFit result.now }
+    {
+        match read_whole(&self.pages, self.rip) {
+            Some(bytes) => cache.recall(self.rip, &bytes),
+            None => self.fetch_apart(cache),
+        }
+    }
+
+    // The same where the bytes lie on two pages, or some of them can't be executed now.
+    #[inline(never)]
+    fn fetch_apart<'f>(&self, cache: &'f mut FetchCache) -> &'f Kept
+        ensures fetches { Fetches self.now (fetched_of result.now) }
         ensures kept { IsKeptFit result.now }
     {
         let mut bytes = [0; LIMIT];
@@ -145,27 +163,88 @@ impl Machine {
         if self.is_misaligned(p) {
             return Acted::Trap(Fault::General);
         }
-        let plan = self.plan_for(p);
-        match self.walk(&plan) {
-            Err(stop) => answer(stop),
-            Ok(()) => self.finish(&plan),
+        self.carry_out(p)
+    }
+
+    // Performs an instruction whose operand in memory stands where it may.
+    fn carry_out(&mut self, p: &Prepared) -> Acted
+        requires fits { PlanFormFits p.now.form }
+        requires room { self.old.steps < 2 ^ 64 - 1 }
+        ensures { IsCarriedOut (λ w. let s = state_of self.old w in
+            plan_by_form p.now.form p.now.decoded.fields (next_of p.now.len s) s) self.old self.new result }
+    {
+        let next = self.rip.wrapping_add(p.len as u64);
+        match &p.form {
+            PlanForm::Plain(f) => self.carry_out_plain(f, next),
+            PlanForm::OnStrings(f) => self.carry_out_strings(f, next),
+            PlanForm::OnPair(f) => self.carry_out_pair(f, next),
+            PlanForm::OnVectors(f) => self.carry_out_vectors(f, &p.decoded.fields, next),
+            PlanForm::Clears(clearing) => self.carry_out_clearing(*clearing, next),
         }
     }
 
-    // Performs an instruction whose accesses can be made.
-    fn finish(&mut self, plan: &Plan) -> Acted
-        requires fits { PlanFits plan.now }
-        requires ready { (w : Swap) → walk (table_of self.old.pages) (plan_accesses plan.now (state_of self.old w)) ≡ None }
+    // An instruction on numbers.
+    fn carry_out_plain(&mut self, f: &PlainForm, next: u64) -> Acted
+        requires fits { PlainFormFits f.now }
         requires room { self.old.steps < 2 ^ 64 - 1 }
-        ensures { IsLeft self.old self.new result (effect_of plan.now) }
+        ensures { IsCarriedOut (λ w. Plan.Plain (plain_by f.now next (state_of self.old w))) self.old self.new result }
     {
-        match plan {
-            Plan::Plain(i) => self.complete(i),
-            Plan::OnStrings(i) => self.pass_strings(i),
-            Plan::OnPair(i) => self.exchange(i),
-            Plan::OnVectors(i) => self.apply(i),
-            Plan::Clears(i) => self.clear(i),
+        let i = self.instruction(f, next);
+        match self.take_operands(&i) {
+            Err(stop) => answer(stop),
+            Ok(taken) => self.complete(&i, taken),
         }
+    }
+
+    // An instruction on strings.
+    #[inline(never)]
+    fn carry_out_strings(&mut self, f: &StringForm, next: u64) -> Acted
+        requires room { self.old.steps < 2 ^ 64 - 1 }
+        ensures { IsCarriedOut (λ w. Plan.OnStrings (strings_by f.now next (state_of self.old w))) self.old self.new result }
+    {
+        let i = self.on_strings(f, next);
+        match self.walk_strings(&i) {
+            Err(stop) => answer(stop),
+            Ok(()) => self.pass_strings(&i),
+        }
+    }
+
+    // CMPXCHG8B or CMPXCHG16B.
+    #[inline(never)]
+    fn carry_out_pair(&mut self, f: &PairForm, next: u64) -> Acted
+        requires fits { AddressFits f.now.address }
+        requires room { self.old.steps < 2 ^ 64 - 1 }
+        ensures { IsCarriedOut (λ w. Plan.OnPair (pair_by f.now next (state_of self.old w))) self.old self.new result }
+    {
+        let i = self.on_pair(f, next);
+        match self.walk_pair(&i) {
+            Err(stop) => answer(stop),
+            Ok(()) => self.exchange(&i),
+        }
+    }
+
+    // An instruction on vectors.
+    #[inline(never)]
+    fn carry_out_vectors(&mut self, f: &VectorForm, fields: &Fields, next: u64) -> Acted
+        requires row { IsVectorRow f.now.row }
+        requires memory { MemoryFits f.now.memory }
+        requires room { self.old.steps < 2 ^ 64 - 1 }
+        ensures { IsCarriedOut (λ w. Plan.OnVectors (vectors_by f.now fields.now next (state_of self.old w))) self.old self.new result }
+    {
+        let i = self.on_vectors(f, fields, next);
+        match walk_vectors(&i, &self.pages) {
+            Err(stop) => answer(stop),
+            Ok(()) => self.apply(&i),
+        }
+    }
+
+    // VZEROUPPER or VZEROALL.
+    #[inline(never)]
+    fn carry_out_clearing(&mut self, clearing: Clearing, next: u64) -> Acted
+        requires room { self.old.steps < 2 ^ 64 - 1 }
+        ensures { IsCarriedOut (λ w. Plan.Clears (record { clearing = clearing; next = next })) self.old self.new result }
+    {
+        self.clear(&ClearPlan { clearing, next })
     }
 
     // Goes on with the next instruction.
@@ -250,17 +329,22 @@ impl Machine {
         Acted::Done
     }
 
-    // Performs an instruction whose operands are found and whose accesses can be made.
-    fn complete(&mut self, i: &Instruction) -> Acted
+    // Performs an instruction whose accesses can be made, by the numbers in its operands.
+    fn complete(&mut self, i: &Instruction, taken: Taken) -> Acted
         requires fits { InstructionFits i.now }
-        requires ready { walk (table_of self.old.pages) (accesses_of i.now) ≡ None }
+        requires taken { AreTaken self.old i.now taken }
         requires room { self.old.steps < 2 ^ 64 - 1 }
         ensures { IsLeft self.old self.new result (plain_effect i.now) }
     {
-        let a = self.old_value(i.usage, i.destination, i.size);
-        let b = self.value(i.source, i.source_size, Kind::Read);
-        let c = self.register_value(i.beside, i.beside_size);
-        let outcome = outcome(i, a, b, c, self.flags, self.steps);
+        let beside = self.beside_value(i.beside, i.beside_size);
+        let outcome = outcome(
+            i,
+            taken.destination,
+            taken.source,
+            beside,
+            self.flags,
+            self.steps,
+        );
         self.leave(i, &outcome);
         outcome.acted
     }

@@ -1,22 +1,20 @@
-//! An instruction with its operands found in a state, by the way in which it is performed.
+//! An instruction with its operands found in a state.
 ghost use Rattle.std.specs.Prelude.{◌≡◌, slice_index};
 ghost use Rattle.gpr_flags.specs.Registers.{RSP};
 ghost use Rattle.machine_state.specs.Memory.{Swap};
 ghost use Rattle.core_step.specs.Operands.{rsp_for};
-ghost use Rattle.core_step.specs.Fits.{InstructionFits, PlanFits};
-ghost use Rattle.core_step.specs.Plan.{next_of};
-ghost use Rattle.core_step.specs.Forms.{plain_by, strings_by, address_by, pair_by, memory_by, places_by, vectors_by, plan_by_form, PlainFormFits, AddressFits, MemoryFits, PlanFormFits};
+ghost use Rattle.core_step.specs.Fits.{InstructionFits};
+ghost use Rattle.core_step.specs.Forms.{plain_by, strings_by, address_by, pair_by, memory_by, places_by, vectors_by, PlainFormFits, AddressFits, MemoryFits};
 ghost use Rattle.core_step.specs.Machine.{state_of};
 ghost use Rattle.vec_units.specs.Form.{IsVectorRow};
 ghost use Rattle.vec_step.specs.Fits.{PlanFits as VectorPlanFits};
 
-use crate::forms::{AddressForm, PairForm, PlainForm, PlanForm, StringForm, VectorForm};
-use crate::kinds::{Bases, ClearPlan, Instruction, Plan, StackUse};
+use crate::forms::{AddressForm, PairForm, PlainForm, StringForm, VectorForm};
+use crate::kinds::{Bases, Instruction, StackUse};
 use crate::locating::segment_base;
 use crate::machine::Machine;
 use crate::operands::{rsp_in_addresses, stack_place};
 use crate::pair::PairPlan;
-use crate::prepared::Prepared;
 use crate::sizes::Size;
 use crate::strings::StringPlan;
 use row_table::Fields;
@@ -49,7 +47,7 @@ impl Machine {
     // An instruction on numbers.
     #[inline(always)]
     #[tactic(auto, unfolding(crate::specs::Forms::plain_by))]
-    fn instruction(&self, f: &PlainForm, next: u64) -> Instruction
+    pub(crate) fn instruction(&self, f: &PlainForm, next: u64) -> Instruction
         requires { PlainFormFits f.now }
         ensures is { (w : Swap) → result ≡ plain_by f.now next (state_of self.now w) }
         ensures fits { InstructionFits result }
@@ -76,7 +74,7 @@ impl Machine {
 
     // An instruction on strings.
     #[tactic(auto, unfolding(crate::specs::Forms::strings_by))]
-    fn on_strings(&self, f: &StringForm, next: u64) -> StringPlan
+    pub(crate) fn on_strings(&self, f: &StringForm, next: u64) -> StringPlan
         ensures { (w : Swap) → result ≡ strings_by f.now next (state_of self.now w) }
     {
         let bases = self.bases(StackUse::Aside, Size::Quad, next);
@@ -92,7 +90,7 @@ impl Machine {
 
     // CMPXCHG8B or CMPXCHG16B.
     #[tactic(auto, unfolding(crate::specs::Forms::pair_by))]
-    fn on_pair(&self, f: &PairForm, next: u64) -> PairPlan
+    pub(crate) fn on_pair(&self, f: &PairForm, next: u64) -> PairPlan
         requires { AddressFits f.now.address }
         ensures { (w : Swap) → result ≡ pair_by f.now next (state_of self.now w) }
     {
@@ -129,7 +127,7 @@ impl Machine {
 
     // An instruction on vectors.
     #[tactic(auto, unfolding(crate::specs::Forms::vectors_by))]
-    fn on_vectors(&self, f: &VectorForm, fields: &Fields, next: u64) -> VectorPlan
+    pub(crate) fn on_vectors(&self, f: &VectorForm, fields: &Fields, next: u64) -> VectorPlan
         requires row { IsVectorRow f.now.row }
         requires memory { MemoryFits f.now.memory }
         ensures is { (w : Swap) → result ≡ vectors_by f.now fields.now next (state_of self.now w) }
@@ -137,26 +135,5 @@ impl Machine {
     {
         let places = self.places(f, next);
         plan(&f.row, fields, &places, next, &self.vec)
-    }
-
-    // An instruction by the way in which it is performed.
-    #[inline(always)]
-    pub(crate) fn plan_for(&self, p: &Prepared) -> Plan
-        requires { PlanFormFits p.now.form }
-        ensures is { (w : Swap) → let s = state_of self.now w in
-            result ≡ plan_by_form p.now.form p.now.decoded.fields (next_of p.now.len s) s }
-        ensures fits { PlanFits result }
-    {
-        let next = self.rip.wrapping_add(p.len as u64);
-        match &p.form {
-            PlanForm::Plain(f) => Plan::Plain(self.instruction(f, next)),
-            PlanForm::OnStrings(f) => Plan::OnStrings(self.on_strings(f, next)),
-            PlanForm::OnPair(f) => Plan::OnPair(self.on_pair(f, next)),
-            PlanForm::OnVectors(f) => Plan::OnVectors(self.on_vectors(f, &p.decoded.fields, next)),
-            PlanForm::Clears(clearing) => Plan::Clears(ClearPlan {
-                clearing: *clearing,
-                next,
-            }),
-        }
     }
 }

@@ -2,7 +2,7 @@
 ghost use Rattle.std.specs.Prelude.{◌≡◌, ◌≤◌, ◌<◌, ◌^◌};
 ghost use Rattle.core_step.specs.Size.{bytes_in, bits_in, cut as cut_to, sign_extended, half_of, with_high_byte as with_high};
 
-use gpr_flags::{is_negative, low};
+use gpr_flags::is_negative;
 
 /// The size of an operand (SDM volume 1, 4.1).
 #[derive(Clone, Copy, Debug, PartialEq, Eq)]
@@ -45,7 +45,12 @@ impl Size {
     pub(crate) fn cut(self, number: u64) -> u64
         ensures { result ≡ cut_to self number }
     {
-        low(self.bits(), u128::from(number))
+        match self {
+            Size::Byte => number % 0x100,
+            Size::Word => number % 0x1_0000,
+            Size::Double => number % 0x1_0000_0000,
+            Size::Quad => number,
+        }
     }
 
     /// A number of this size at 64 bits, with its sign.

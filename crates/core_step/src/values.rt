@@ -7,8 +7,8 @@ ghost use Rattle.guest_pages.specs.Walk.{walk};
 ghost use Rattle.guest_pages.specs.Changes.{KeepsTable, IsWritten};
 ghost use Rattle.core_step.specs.Size.{bytes_in, bits_in};
 ghost use Rattle.core_step.specs.Fits.{OperandFits};
-ghost use Rattle.core_step.specs.Access.{operand_access, kind_of};
-ghost use Rattle.core_step.specs.Plain.{register_value as register_value_of, value_of, old_value as old_value_of, number_for as number_for_use, gprs_with, gprs_after, gprs_stacked, byte_after, extended_with, extended_after};
+ghost use Rattle.core_step.specs.Access.{operand_access};
+ghost use Rattle.core_step.specs.Plain.{register_value as register_value_of, number_for as number_for_use, gprs_with, gprs_after, gprs_stacked, byte_after, extended_with, extended_after};
 ghost use Rattle.core_step.specs.Machine.{processor_in};
 
 use crate::kinds::{Operand, Use};
@@ -36,36 +36,16 @@ impl Machine {
         }
     }
 
-    /// The number of an operand that can be read.
-    #[tactic(auto, unfolding(crate::specs::Plain::value_of))]
-    pub(crate) fn value(&self, operand: Operand, size: Size, kind: Kind) -> u64
-        requires operand { OperandFits operand }
-        requires ready { walk (table_of self.now.pages) (operand_access kind operand size) ≡ None }
-        ensures value { (w : Swap) → result ≡ value_of operand size (processor_in self.now) (byte_of self.now.pages w) }
+    /// The same where most instructions have none.
+    #[inline(always)]
+    pub(crate) fn beside_value(&self, operand: Operand, size: Size) -> u64
+        requires { OperandFits operand }
+        ensures value { result ≡ register_value_of operand size (processor_in self.now) }
         ensures fits { result < 2 ^ bits_in size }
     {
         match operand {
-            Operand::Memory(addr) => self.pages.load(addr, size.bytes(), kind),
-            Operand::Absent
-            | Operand::Register(_)
-            | Operand::HighByte(_)
-            | Operand::Number(_)
-            | Operand::Mxcsr
-            | Operand::Opmask(_) => self.register_value(operand, size),
-        }
-    }
-
-    /// The number that stands in a destination; where it is only written, that is not looked at.
-    pub(crate) fn old_value(&self, usage: Use, operand: Operand, size: Size) -> u64
-        requires operand { OperandFits operand }
-        requires ready { walk (table_of self.now.pages) (operand_access (kind_of usage) operand size) ≡ None }
-        ensures value { (w : Swap) → result ≡ old_value_of usage operand size (processor_in self.now) (byte_of self.now.pages w) }
-        ensures fits { result < 2 ^ bits_in size }
-    {
-        match usage {
-            Use::Read => self.value(operand, size, Kind::Read),
-            Use::Update => self.value(operand, size, Kind::Write),
-            Use::Write => 0,
+            Operand::Absent => 0,
+            operand => self.register_value(operand, size),
         }
     }
 }

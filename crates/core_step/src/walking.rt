@@ -1,18 +1,13 @@
 //! The access list of an instruction, and why its accesses can't be made, where they can't.
-ghost use Rattle.std.specs.Prelude.{◌≡◌, ◌≤◌, ◌<◌, ◌+◌, ◌++◌, Some, None, MatchResult};
-ghost use Rattle.machine_state.specs.Memory.{Swap};
-ghost use Rattle.arrayvec.specs.ArrayVec.{array_vec_len};
+ghost use Rattle.std.specs.Prelude.{◌≡◌, Some, None, MatchResult};
 ghost use Rattle.guest_pages.specs.Pages.{table_of};
 ghost use Rattle.guest_pages.specs.Walk.{walk as walk_along};
-ghost use Rattle.core_step.specs.Access.{operand_access, kind_of, accesses_of, access_fault, acted_by};
+ghost use Rattle.core_step.specs.Access.{operand_access, access_fault, acted_by};
 ghost use Rattle.core_step.specs.Strings.{strings_access};
 ghost use Rattle.core_step.specs.Pair.{pair_access};
-ghost use Rattle.core_step.specs.Fits.{PlanFits};
-ghost use Rattle.core_step.specs.Plan.{plan_accesses};
-ghost use Rattle.core_step.specs.Machine.{state_of};
 
 use crate::acted::Acted;
-use crate::kinds::{Instruction, Operand, Plan, Use};
+use crate::kinds::Operand;
 use crate::machine::Machine;
 use crate::pair::PairPlan;
 use crate::sizes::Size;
@@ -21,43 +16,6 @@ use arrayvec::ArrayVec;
 use gpr_flags::{Fault, Gprs};
 use machine_state::{Access, Kind, Miss, Stop};
 use string_unit::{accesses as iteration_accesses, destination_place, source_place};
-use vec_step::walk as walk_vectors;
-
-/// The kind of the access of a destination.
-fn kind_for(destination: Use) -> Kind
-    ensures { result ≡ kind_of destination }
-{
-    match destination {
-        Use::Read => Kind::Read,
-        Use::Write | Use::Update => Kind::Write,
-    }
-}
-
-/// Adds the access of an operand, which is one where it is in memory.
-fn add(list: &mut ArrayVec<Access, 2>, kind: Kind, operand: Operand, size: Size)
-    requires room { array_vec_len list.old < 2 }
-    ensures items { list.new.items ≡ list.old.items ++ operand_access kind operand size }
-    ensures len { array_vec_len list.new ≤ array_vec_len list.old + 1 }
-{
-    if let Operand::Memory(addr) = operand {
-        list.push(Access {
-            kind,
-            addr,
-            len: u64::from(size.bytes()),
-        });
-    }
-}
-
-/// The accesses of an instruction whose operands are found: the source's first, and the destination's last.
-#[tactic(auto, unfolding(crate::specs::Access::accesses_of))]
-fn operand_accesses(i: &Instruction) -> ArrayVec<Access, 2>
-    ensures { result.items ≡ accesses_of i.now }
-{
-    let mut list = ArrayVec::new();
-    add(&mut list, Kind::Read, i.source, i.source_size);
-    add(&mut list, kind_for(i.usage), i.destination, i.size);
-    list
-}
 
 /// The accesses of an instruction on strings.
 #[tactic(auto, unfolding(crate::specs::Strings::strings_access))]
@@ -86,20 +44,45 @@ fn pair_accesses(i: &PairPlan) -> ArrayVec<Access, 2>
 }
 
 impl Machine {
-    /// Walks along the access list of an instruction.
-    pub(crate) fn walk(&self, plan: &Plan) -> Result<(), Stop>
-        requires { PlanFits plan.now }
-        ensures { (w : Swap) → MatchResult result
-            (λ _. walk_along (table_of self.now.pages) (plan_accesses plan.now (state_of self.now w)) ≡ None)
-            (λ stop. walk_along (table_of self.now.pages) (plan_accesses plan.now (state_of self.now w)) ≡ Some stop) }
+    /// Walks along the access of an operand, if it is in memory.
+    #[inline(always)]
+    #[tactic(auto, unfolding(guest_pages::specs::Walk::walk))]
+    pub(crate) fn walk_operand(&self, kind: Kind, operand: Operand, size: Size) -> Result<(), Stop>
+        ensures { MatchResult result
+            (λ _. walk_along (table_of self.now.pages) (operand_access kind operand size) ≡ None)
+            (λ stop. walk_along (table_of self.now.pages) (operand_access kind operand size) ≡ Some stop) }
     {
-        match plan {
-            Plan::Plain(i) => self.pages.walk(&operand_accesses(i)),
-            Plan::OnStrings(i) => self.pages.walk(&string_accesses(i, &self.gprs)),
-            Plan::OnPair(i) => self.pages.walk(&pair_accesses(i)),
-            Plan::OnVectors(i) => walk_vectors(i, &self.pages),
-            Plan::Clears(_) => self.pages.walk(&[]),
+        match operand {
+            Operand::Memory(addr) => self.pages.walk(&[Access {
+                kind,
+                addr,
+                len: u64::from(size.bytes()),
+            }]),
+            Operand::Absent
+            | Operand::Register(_)
+            | Operand::HighByte(_)
+            | Operand::Number(_)
+            | Operand::Mxcsr
+            | Operand::Opmask(_) => Ok(()),
         }
+    }
+
+    /// Walks along the accesses of an instruction on strings.
+    pub(crate) fn walk_strings(&self, i: &StringPlan) -> Result<(), Stop>
+        ensures { MatchResult result
+            (λ _. walk_along (table_of self.now.pages) (strings_access i.now self.now.gprs) ≡ None)
+            (λ stop. walk_along (table_of self.now.pages) (strings_access i.now self.now.gprs) ≡ Some stop) }
+    {
+        self.pages.walk(&string_accesses(i, &self.gprs))
+    }
+
+    /// Walks along the access of CMPXCHG8B or CMPXCHG16B.
+    pub(crate) fn walk_pair(&self, i: &PairPlan) -> Result<(), Stop>
+        ensures { MatchResult result
+            (λ _. walk_along (table_of self.now.pages) (pair_access i.now) ≡ None)
+            (λ stop. walk_along (table_of self.now.pages) (pair_access i.now) ≡ Some stop) }
+    {
+        self.pages.walk(&pair_accesses(i))
     }
 }
 

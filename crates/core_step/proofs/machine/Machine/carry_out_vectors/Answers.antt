@@ -1,0 +1,19 @@
+use Rattle.std.proofs.Common.{refl, ap, inl, inr}
+use Rattle.core_step.specs.declared.kinds.Plan.TheVariants.{OnVectors}
+use Rattle.core_step.proofs.machine.Machine.carry_out_vectors.Goals as goal
+
+pub returns-in-Ok : goal.returns-in-Ok
+returns-in-Ok c = record {
+  found = OnVectors c.on_vectors-i.result;
+  is = λ w. ap OnVectors (c.on_vectors-i.ensures.is w);
+  fits = c.on_vectors-i.ensures.fits;
+  end = inl (record { ready = λ w. c.in-Ok.ensures; left = c.apply.ensures });
+}
+
+pub returns-in-Err : goal.returns-in-Err
+returns-in-Err c = record {
+  found = OnVectors c.on_vectors-i.result;
+  is = λ w. ap OnVectors (c.on_vectors-i.ensures.is w);
+  fits = c.on_vectors-i.ensures.fits;
+  end = inr (record { stop = c.in-Err.stop; stops = λ w. c.in-Err.ensures; answer = c.answer.ensures; same = refl });
+}
