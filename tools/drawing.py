@@ -10,8 +10,8 @@ CHECKS = 0x400800       # where a guest that checks itself goes on (see guest.py
 RAX, RCX, RDX, RSP, RBP, RSI, RDI = 0, 1, 2, 4, 5, 6, 7
 CF, PF, AF, ZF, SF, DF, OF = 1, 4, 16, 64, 128, 0x400, 0x800
 
-# A system call's answer is the kernel's, and RDTSC's number is the program's own (docs/DECISIONS.md).
-LEFT_OUT = ("Syscall", "Rdtsc")
+# A system call's answer is the kernel's, and the numbers of RDTSC, CPUID and XGETBV are the program's own (docs/DECISIONS.md).
+LEFT_OUT = ("Syscall", "Rdtsc", "Cpuid", "Xgetbv")
 
 # What a processor needs to have, in Linux's words, for the rows of a level above the first.
 FEATURES = {"Movbe": "movbe", "Tzcnt": "bmi1", "Lzcnt": "abm", "Adcx": "adx", "Adox": "adx",

@@ -107,7 +107,9 @@ def names_vvvv(row):
 
 
 def takes(row, modrm):
-    """Whether a row takes what ModRM.r/m names."""
+    """Whether a row takes what ModRM.r/m names. XGETBV takes one ModRM byte alone."""
+    if row.operands == "ByteD0":
+        return modrm == 0xD0
     return row.operands not in (REGISTER_ONLY if modrm < 0xC0 else MEMORY_ONLY)
 
 

@@ -1,5 +1,5 @@
 -- An instruction that is carried out along its access list is performed.
-use Rattle.std.proofs.Common.{[], ◌≡◌, ◌↔◌, false, Some, None, Option, refl, ap, ◌∙◌, sym, subst, inl, inr}
+use Rattle.std.proofs.Common.{[], ◌≡◌, ◌↔◌, false, Some, Option, refl, ap, ◌∙◌, sym, subst, inl, inr}
 use Rattle.machine_state.specs.Memory.{Swap}
 use Rattle.machine_state.specs.declared.kinds.Stop.{Stop}
 use Rattle.machine_state.specs.State.{State}
@@ -11,7 +11,6 @@ use Rattle.core_step.specs.declared.acted.Acted.TheVariants.{Need}
 use Rattle.core_step.specs.declared.kinds.Plan.{Plan}
 use Rattle.core_step.specs.declared.machine.Machine.{Machine}
 use Rattle.core_step.specs.declared.prepared.Prepared.{Prepared}
-use Rattle.core_step.specs.Access.{acted_by}
 use Rattle.core_step.specs.Fits.{PlanFits}
 use Rattle.core_step.specs.Alignment.{is_misaligned}
 use Rattle.core_step.specs.Forms.{plan_by_form, is_misaligned_by, IsPrepared}
@@ -19,7 +18,7 @@ use Rattle.core_step.specs.Pages.{TouchesAtMost}
 use Rattle.core_step.specs.Effect.{After}
 use Rattle.core_step.specs.Plain.{steps_after}
 use Rattle.core_step.specs.Plan.{plan_of, next_of, plan_accesses, effect_of}
-use Rattle.core_step.specs.Machine.{state_of, processor_in, IsWhole, IsFinished, IsStopped, IsCarriedOut, accesses, needed}
+use Rattle.core_step.specs.Machine.{state_of, processor_in, IsWhole, IsCarriedOut, accesses, needed}
 use Rattle.core_step.proofs.Steps.{accesses-aligned, performed-stops, performed-passes, whole-stopped, whole-own, stop-needs, own-needs, stopped-counts}
 use Rattle.core_step.proofs.Performed.{IsDefined, row-performed, plan-defined, miss-defined}
 use Rattle.core_step.proofs.PageCounts.{plan-touch}

@@ -25,7 +25,7 @@ use Rattle.core_step.specs.declared.kinds.Outcome.{Outcome}
 use Rattle.core_step.specs.declared.strings.StringPlan.{StringPlan}
 use Rattle.core_step.specs.declared.pair.PairPlan.{PairPlan}
 use Rattle.core_step.specs.declared.kinds.Plan.{Plan}
-use Rattle.core_step.specs.declared.kinds.Plan.TheVariants.{Plain, OnStrings, OnPair, OnVectors, Clears}
+use Rattle.core_step.specs.declared.kinds.Plan.TheVariants.{Plain, OnStrings, OnPair, OnVectors, Clears, Identifies}
 use Rattle.machine_state.specs.declared.kinds.Access.{Access}
 use Rattle.core_step.specs.Size.{bytes_in}
 use Rattle.core_step.specs.Access.{operand_access, kind_of, accesses_of, first_fault}
@@ -127,6 +127,7 @@ plan-spared (OnStrings i) s at spared = strings-spared (is_over i s.gprs) i (pro
 plan-spared (OnPair i) s at spared = pair-spared i (processor_of s) s.memory.byte at spared
 plan-spared (OnVectors i) s at spared = byte_spared i s.gprs s.extended s.memory.byte at spared
 plan-spared (Clears i) s at spared = refl
+plan-spared (Identifies i) s at spared = refl
 
 -- so an effect by what is seen of memory, put to the write accesses, is the one by all of memory
 pub carried-is : (plan : Plan) (s : State)

@@ -30,9 +30,9 @@ use Rattle.core_step.specs.declared.kinds.Outcome.{Outcome}
 use Rattle.core_step.specs.declared.strings.StringPlan.{StringPlan}
 use Rattle.core_step.specs.declared.pair.PairPlan.{PairPlan}
 use Rattle.core_step.specs.declared.ways.Way.{Way}
-use Rattle.core_step.specs.declared.ways.Way.TheVariants.{Numbers, Strings, Pair, Vectors, Clears as ClearsBytes}
+use Rattle.core_step.specs.declared.ways.Way.TheVariants.{Numbers, Strings, Pair, Vectors, Clears as ClearsBytes, Identifies as IdentifiesProcessor}
 use Rattle.core_step.specs.declared.kinds.Plan.{Plan}
-use Rattle.core_step.specs.declared.kinds.Plan.TheVariants.{Plain, OnStrings, OnPair, OnVectors, Clears}
+use Rattle.core_step.specs.declared.kinds.Plan.TheVariants.{Plain, OnStrings, OnPair, OnVectors, Clears, Identifies}
 use Rattle.machine_state.specs.declared.kinds.Access.{Access}
 use Rattle.core_step.specs.Size.{bytes_in}
 use Rattle.core_step.specs.Operands.{instruction_of, instruction_by}
@@ -291,6 +291,7 @@ plan-agrees (OnStrings i) s other agree = strings-agrees (is_over i s.gprs) i (p
 plan-agrees (OnPair i) s other agree = pair-agrees i (processor_of s) s.memory other agree
 plan-agrees (OnVectors i) s other agree = vectors-agrees i (processor_of s) s.memory other agree
 plan-agrees (Clears i) s other agree = record { acted = refl; processor = refl; byte_is = λ at same. same }
+plan-agrees (Identifies i) s other agree = record { acted = refl; processor = refl; byte_is = λ at same. same }
 
 -- a state with another memory
 abbrev with_memory : State → Memory → State
@@ -353,6 +354,7 @@ plan_by_same (Strings op) row d next s other = ap OnStrings (strings_of_same op 
 plan_by_same Pair row d next s other = ap OnPair (pair_of_same row d next s other)
 plan_by_same Vectors row d next s other = ap OnVectors (vectors_of_same row d next s other)
 plan_by_same (ClearsBytes clearing) row d next s other = refl
+plan_by_same IdentifiesProcessor row d next s other = refl
 
 plan_of_same : (row : Row) (d : Decoded) (len : ℕ) (s : State) (other : Memory)
     → plan_of row d len (with_memory s other) ≡ plan_of row d len s
@@ -366,6 +368,7 @@ accesses-same (OnStrings i) s other = refl
 accesses-same (OnPair i) s other = refl
 accesses-same (OnVectors i) s other = refl
 accesses-same (Clears i) s other = refl
+accesses-same (Identifies i) s other = refl
 
 misaligned-same : (row : Row) (d : Decoded) (len : ℕ) (s : State) (other : Memory)
     → is_misaligned row d len (with_memory s other) ≡ is_misaligned row d len s

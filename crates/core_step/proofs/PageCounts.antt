@@ -19,7 +19,7 @@ use Rattle.core_step.specs.declared.kinds.Operand.TheVariants.{Absent, Register,
 use Rattle.core_step.specs.declared.kinds.Instruction.{Instruction}
 use Rattle.core_step.specs.declared.pair.PairPlan.{PairPlan}
 use Rattle.core_step.specs.declared.ways.Way.{Way}
-use Rattle.core_step.specs.declared.ways.Way.TheVariants.{Numbers, Strings, Pair, Vectors, Clears}
+use Rattle.core_step.specs.declared.ways.Way.TheVariants.{Numbers, Strings, Pair, Vectors, Clears, Identifies}
 use Rattle.core_step.specs.Size.{bytes_in}
 use Rattle.core_step.specs.Access.{operand_access, kind_of, accesses_of}
 use Rattle.core_step.specs.Strings.{strings_of, is_over, source_of, destination_of, strings_access}
@@ -180,6 +180,7 @@ way-touch (Strings op) row d next s fits =
 way-touch Pair row d next s fits = few-touch 2 _ (pair-few (pair_of row d next s))
 way-touch Vectors row d next s fits = vectors-touch row d next s fits
 way-touch (Clears clearing) row d next s fits = none-touch
+way-touch Identifies row d next s fits = none-touch
 
 -- the accesses of an instruction touch at most four pages
 pub plan-touch : (row : Row) (d : Decoded) (len : ℕ) (s : State) → PlanFits (plan_of row d len s)

@@ -1,5 +1,5 @@
 -- Every row of the table is performed, and so its instructions aren't undefined.
-use Rattle.std.proofs.Common.{◌≡◌, ◌/◌, ℕ, zero, suc, Bool, true, false, ◌&&◌, cond, nat_lt, List, [], ◌∷◌, slice_get, refl, subst}
+use Rattle.std.proofs.Common.{◌≡◌, ◌==◌, ◌/◌, ℕ, zero, suc, Bool, true, false, ◌&&◌, cond, nat_lt, List, [], ◌∷◌, slice_get, refl, subst}
 use Rattle.std.proofs.Common.{Some as some}
 use Rattle.std.proofs.lemmas.Bool.{and_parts}
 use Rattle.gpr_flags.specs.declared.kinds.Flags.{Flags}
@@ -14,7 +14,7 @@ use Rattle.row_table.specs.declared.kinds.Decoded.{Decoded}
 use Rattle.row_table.specs.declared.operations.Op.{Op}
 use Rattle.row_table.specs.declared.operations.Op.TheVariants.{Core, Gpr, Bit, String, Lane, Cross, Width, Mac, Mask, Vector}
 use Rattle.row_table.specs.declared.operations.CoreOp.{CoreOp}
-use Rattle.row_table.specs.declared.operations.CoreOp.TheVariants.{Cmpxchg8b, Nop, Ldmxcsr, Vzeroupper, Vzeroall}
+use Rattle.row_table.specs.declared.operations.CoreOp.TheVariants.{Cmpxchg8b, Nop, Cpuid, Xgetbv, Ldmxcsr, Vzeroupper, Vzeroall}
 use Rattle.row_table.specs.declared.operations.GprOp.{GprOp}
 use Rattle.row_table.specs.declared.operations.GprOp.TheVariants.{Div, Idiv}
 use Rattle.row_table.specs.declared.operations.BitOp.{BitOp}
@@ -30,7 +30,7 @@ use Rattle.row_table.specs.Rows.{rows}
 use Rattle.core_step.specs.declared.acted.Acted.{Acted}
 use Rattle.core_step.specs.declared.acted.Acted.TheVariants.{Trap}
 use Rattle.core_step.specs.declared.ways.Way.{Way}
-use Rattle.core_step.specs.declared.ways.Way.TheVariants.{Numbers, Strings, Pair, Vectors, Clears}
+use Rattle.core_step.specs.declared.ways.Way.TheVariants.{Numbers, Strings, Pair, Vectors, Clears, Identifies}
 use Rattle.core_step.specs.declared.kinds.Instruction.{Instruction}
 use Rattle.core_step.specs.declared.kinds.Outcome.{Outcome}
 use Rattle.core_step.specs.declared.strings.StringPlan.{StringPlan}
@@ -40,7 +40,8 @@ use Rattle.core_step.specs.Operands.{instruction_of, instruction_by, op_of}
 use Rattle.core_step.specs.Access.{acted_by_miss}
 use Rattle.core_step.specs.Strings.{strings_of, is_over, passed_over, iterated}
 use Rattle.core_step.specs.Plan.{core_way, way_of, plan_by, plan_of, next_of, effect_of}
-use Rattle.core_step.specs.Result.{gives, faults, core_outcome, gpr_outcome, bit_outcome, mask_outcome, outcome_by, outcome_of}
+use Rattle.core_step.specs.Result.{gives, counts, faults, core_outcome, gpr_outcome, bit_outcome, mask_outcome, outcome_by, outcome_of}
+use Rattle.core_step.specs.SaveArea.{xcr0}
 use Rattle.core_step.specs.Effect.{Processor}
 use Rattle.core_step.specs.Plain.{outcome_in}
 use Rattle.core_step.specs.Performed.{core_performed, is_performed, are_placed, are_vectors_placed, is_choice_placed, suits, IsPerformed}
@@ -86,6 +87,7 @@ unfolding core_way
 core-away Cmpxchg8b is = cc
 core-away Vzeroupper is = cc
 core-away Vzeroall is = cc
+core-away Cpuid is = cc
 core-away op is = cc
 
 vectors-op : (op : Op) → way_of op ≡ Vectors → is_vector op ≡ true
@@ -125,6 +127,9 @@ unfolding core_performed core_way core_outcome
 core-defined Cmpxchg8b i a b c flags steps h plain e = absurd (let clash : Pair ≡ Numbers = plain in cc)
 core-defined Vzeroupper i a b c flags steps h plain e = absurd (let clash : Clears Upper ≡ Numbers = plain in cc)
 core-defined Vzeroall i a b c flags steps h plain e = absurd (let clash : Clears All ≡ Numbers = plain in cc)
+core-defined Cpuid i a b c flags steps h plain e = absurd (let clash : Identifies ≡ Numbers = plain in cc)
+core-defined Xgetbv i a b c flags steps h plain e =
+    chosen-defined (b == 0) (counts xcr0 i flags) (faults General i flags) (λ done. cc) (λ fault. cc) e
 core-defined Ldmxcsr i a b c flags steps h plain e =
     chosen-defined (nat_lt b 65536) (gives b i flags) (faults General i flags) (λ done. cc) (λ fault. cc) e
 core-defined op i a b c flags steps h plain e = cc
@@ -185,6 +190,7 @@ plan_by-defined (Strings op) row d next s p byte is h = strings-defined (is_over
 plan_by-defined Pair row d next s p byte is h = λ e. cc
 plan_by-defined Vectors row d next s p byte is h = λ e. cc
 plan_by-defined (Clears clearing) row d next s p byte is h = λ e. cc
+plan_by-defined Identifies row d next s p byte is h = λ e. cc
 
 pub plan-defined : (row : Row) (d : Decoded) (len : ℕ) (s : State) (p : Processor) (byte : ℕ → ℕ) → IsPerformed row
     → IsDefined (effect_of (plan_of row d len s) p byte).acted

@@ -9,7 +9,6 @@ use Rattle.guest_pages.specs.Pages.{table_of, byte_of}
 use Rattle.guest_pages.specs.Changes.{IsShown}
 use Rattle.core_step.specs.declared.sizes.Size.{Size}
 use Rattle.core_step.specs.declared.kinds.Operand.TheVariants.{Memory}
-use Rattle.core_step.specs.declared.kinds.Instruction.{Instruction}
 use Rattle.core_step.specs.declared.machine.Machine.{Machine}
 use Rattle.core_step.specs.Size.{bytes_in}
 use Rattle.core_step.specs.Plain.{value_of}

@@ -9,7 +9,7 @@ use Rattle.core_step.specs.declared.kinds.Operand.{Operand}
 use Rattle.core_step.specs.declared.kinds.Operand.TheVariants.{Absent, Register, HighByte, Memory, Number, Mxcsr, Opmask}
 use Rattle.core_step.specs.declared.kinds.Instruction.{Instruction}
 use Rattle.core_step.specs.declared.kinds.Plan.{Plan}
-use Rattle.core_step.specs.declared.kinds.Plan.TheVariants.{Plain, OnStrings, OnPair, OnVectors, Clears}
+use Rattle.core_step.specs.declared.kinds.Plan.TheVariants.{Plain, OnStrings, OnPair, OnVectors, Clears, Identifies}
 use Rattle.core_step.specs.declared.kinds.Outcome.{Outcome}
 
 -- the numbers of registers have one bit above those in ModRM, SIB and the opcode, and that in ModRM.reg two with EVEX (SDM volume 2,
@@ -40,6 +40,7 @@ PlanFits (OnStrings i) = ⊤
 PlanFits (OnPair i) = ⊤
 PlanFits (OnVectors i) = VectorPlanFits i
 PlanFits (Clears i) = ⊤
+PlanFits (Identifies i) = ⊤
 
 -- a fault leaves all but the instruction pointer as it was, and no page is needed any more
 abbrev pub ActedFits : Acted → Outcome → Flags → Type 0

@@ -18,7 +18,7 @@ use Rattle.core_step.specs.declared.kinds.Operand.{Operand}
 use Rattle.core_step.specs.declared.kinds.Operand.TheVariants.{Memory, Number}
 use Rattle.core_step.specs.declared.kinds.Instruction.{Instruction}
 use Rattle.core_step.specs.declared.kinds.Plan.{Plan}
-use Rattle.core_step.specs.declared.kinds.Plan.TheVariants.{Plain, OnStrings, OnPair, OnVectors, Clears}
+use Rattle.core_step.specs.declared.kinds.Plan.TheVariants.{Plain, OnStrings, OnPair, OnVectors, Clears, Identifies}
 use Rattle.core_step.specs.declared.strings.StringPlan.{StringPlan}
 use Rattle.vec_step.specs.declared.kinds.VectorPlan.{VectorPlan}
 use Rattle.core_step.specs.declared.pair.PairPlan.{PairPlan}
@@ -33,7 +33,7 @@ use Rattle.core_step.specs.declared.forms.StringForm.{StringForm}
 use Rattle.core_step.specs.declared.forms.PairForm.{PairForm}
 use Rattle.core_step.specs.declared.forms.VectorForm.{VectorForm}
 use Rattle.core_step.specs.declared.forms.PlanForm.{PlanForm}
-use Rattle.core_step.specs.declared.forms.PlanForm.TheVariants.{Plain as PlainOf, OnStrings as StringsOf, OnPair as PairOf, OnVectors as VectorsOf, Clears as ClearsOf}
+use Rattle.core_step.specs.declared.forms.PlanForm.TheVariants.{Plain as PlainOf, OnStrings as StringsOf, OnPair as PairOf, OnVectors as VectorsOf, Clears as ClearsOf, Identifies as IdentifiesOf}
 use Rattle.core_step.specs.declared.forms.Alignment.{Alignment}
 use Rattle.core_step.specs.declared.prepared.Prepared.{Prepared}
 use Rattle.core_step.specs.Fits.{OperandFits}
@@ -135,6 +135,7 @@ plan_by_form (StringsOf f) fields next s = OnStrings (strings_by f next s)
 plan_by_form (PairOf f) fields next s = OnPair (pair_by f next s)
 plan_by_form (VectorsOf f) fields next s = OnVectors (vectors_by f fields next s)
 plan_by_form (ClearsOf clearing) fields next s = Clears (record { clearing = clearing; next = next })
+plan_by_form IdentifiesOf fields next s = Identifies (record { next = next })
 
 -- whether alignment is broken
 unfoldable pub is_misaligned_by : Option Alignment → (next : ℕ) → State → Bool
@@ -176,6 +177,7 @@ PlanFormFits (StringsOf f) = ⊤
 PlanFormFits (PairOf f) = AddressFits f.address
 PlanFormFits (VectorsOf f) = IsVectorRow f.row × MemoryFits f.memory
 PlanFormFits (ClearsOf clearing) = ⊤
+PlanFormFits IdentifiesOf = ⊤
 
 abbrev pub AlignmentFits : Option Alignment → Type 0
 AlignmentFits None = ⊤

@@ -6,6 +6,9 @@ pub mod Operands
 pub mod Fits
 pub mod Access
 pub mod Effect
+pub mod Features
+pub mod SaveArea
+pub mod Cpuid
 pub mod Result
 pub mod Plain
 pub mod Strings

@@ -16,7 +16,7 @@ use Rattle.core_step.specs.declared.kinds.Part.TheVariants.{Absent, First, Secon
 use Rattle.core_step.specs.declared.kinds.Roles.{Roles}
 use Rattle.core_step.specs.Roles.{roles_of}
 use Rattle.core_step.specs.declared.ways.Way.{Way}
-use Rattle.core_step.specs.declared.ways.Way.TheVariants.{Numbers, Strings, Pair, Vectors, Clears}
+use Rattle.core_step.specs.declared.ways.Way.TheVariants.{Numbers, Strings, Pair, Vectors, Clears, Identifies}
 use Rattle.core_step.specs.Plan.{way_of}
 use Rattle.vec_units.specs.Form.{chooses, memory_width}
 use Rattle.vec_step.specs.Plan.{is_immediate, is_xmm0, is_register_by_immediate, has_two_sources, spots_of}
@@ -67,8 +67,8 @@ core_performed Cmpxchg8b = true
 core_performed Ldmxcsr = true
 core_performed Stmxcsr = true
 core_performed Clflush = true
-core_performed Cpuid = false
-core_performed Xgetbv = false
+core_performed Cpuid = true
+core_performed Xgetbv = true
 core_performed Vzeroupper = true
 core_performed Vzeroall = true
 
@@ -237,6 +237,7 @@ suits Numbers row = true
 suits (Strings op) row = true
 suits Pair row = true
 suits (Clears clearing) row = true
+suits Identifies row = true
 
 -- ---- rows
 pub record IsPerformed (row : Row) : Type 0 where

@@ -1,4 +1,4 @@
--- The three ways in which instructions are performed: what is accessed, and what comes of it.
+-- The ways in which instructions are performed: what is accessed, and what comes of it.
 use Rattle.std.specs.Prelude.{ℕ, ◌+◌, ◌%◌, ◌^◌, List, []}
 use Rattle.row_table.specs.declared.kinds.Row.{Row}
 use Rattle.row_table.specs.declared.kinds.Decoded.{Decoded}
@@ -9,9 +9,9 @@ use Rattle.row_table.specs.declared.operations.CoreOp.TheVariants.{Mov, Movsxd, 
 use Rattle.machine_state.specs.State.{State}
 use Rattle.machine_state.specs.declared.kinds.Access.{Access}
 use Rattle.core_step.specs.declared.ways.Way.{Way}
-use Rattle.core_step.specs.declared.ways.Way.TheVariants.{Numbers, Strings, Pair, Vectors, Clears as ClearsBytes}
+use Rattle.core_step.specs.declared.ways.Way.TheVariants.{Numbers, Strings, Pair, Vectors, Clears as ClearsBytes, Identifies as IdentifiesProcessor}
 use Rattle.core_step.specs.declared.kinds.Plan.{Plan}
-use Rattle.core_step.specs.declared.kinds.Plan.TheVariants.{Plain, OnStrings, OnPair, OnVectors, Clears}
+use Rattle.core_step.specs.declared.kinds.Plan.TheVariants.{Plain, OnStrings, OnPair, OnVectors, Clears, Identifies}
 use Rattle.core_step.specs.Operands.{instruction_of}
 use Rattle.core_step.specs.Access.{accesses_of}
 use Rattle.core_step.specs.Effect.{Processor, Effect}
@@ -19,6 +19,7 @@ use Rattle.core_step.specs.Plain.{plain_effect}
 use Rattle.core_step.specs.Strings.{strings_of, strings_access, strings_effect}
 use Rattle.core_step.specs.Pair.{pair_of, pair_access, pair_effect}
 use Rattle.core_step.specs.Vectors.{vectors_of, vectors_effect, clears_effect}
+use Rattle.core_step.specs.Cpuid.{identify_effect}
 use Rattle.vec_step.specs.declared.kinds.Clearing.TheVariants.{Upper, All}
 use Rattle.vec_step.specs.Plan.{vector_access}
 
@@ -61,7 +62,7 @@ core_way Int3 = Numbers
 core_way Hlt = Numbers
 core_way Syscall = Numbers
 core_way Rdtsc = Numbers
-core_way Cpuid = Numbers
+core_way Cpuid = IdentifiesProcessor
 core_way Nop = Numbers
 core_way Xadd = Numbers
 core_way Cmpxchg = Numbers
@@ -94,6 +95,7 @@ plan_by (Strings op) row d next s = OnStrings (strings_of op row d next s)
 plan_by Pair row d next s = OnPair (pair_of row d next s)
 plan_by Vectors row d next s = OnVectors (vectors_of row d next s)
 plan_by (ClearsBytes clearing) row d next s = Clears (record { clearing = clearing; next = next })
+plan_by IdentifiesProcessor row d next s = Identifies (record { next = next })
 
 -- where the next instruction stands
 abbrev pub next_of : (len : ℕ) → State → ℕ
@@ -110,6 +112,7 @@ plan_accesses (OnStrings i) s = strings_access i s.gprs
 plan_accesses (OnPair i) s = pair_access i
 plan_accesses (OnVectors i) s = vector_access i
 plan_accesses (Clears i) s = []
+plan_accesses (Identifies i) s = []
 
 -- what it does, by the state without memory and the bytes of memory
 abbrev pub effect_of : Plan → Processor → (ℕ → ℕ) → Effect
@@ -118,3 +121,4 @@ effect_of (OnStrings i) p byte = strings_effect i p byte
 effect_of (OnPair i) p byte = pair_effect i p byte
 effect_of (OnVectors i) p byte = vectors_effect i p byte
 effect_of (Clears i) p byte = clears_effect i p byte
+effect_of (Identifies i) p byte = identify_effect i p byte

@@ -27,6 +27,7 @@ use Rattle.core_step.specs.declared.kinds.Instruction.{Instruction}
 use Rattle.core_step.specs.declared.kinds.Outcome.{Outcome}
 use Rattle.core_step.specs.Size.{bytes_in, bits_in, cut, sign_extended}
 use Rattle.core_step.specs.Operands.{raised}
+use Rattle.core_step.specs.SaveArea.{xcr0}
 
 -- ---- flags
 -- SAHF loads SF, ZF, AF, PF and CF (SDM volume 2, SAHF)
@@ -123,6 +124,11 @@ compares i a b c flags = record (passes i (alu_flags (Gpr Cmp) (bits_in i.size) 
 abbrev pub loads_control : ℕ → Instruction → Flags → Outcome
 loads_control number i flags = if nat_lt number (2 ^ 16) then gives number i flags else faults General i flags
 
+-- XCR0 in two halves, of which the upper goes beside the destination; the number of any other register is #GP (SDM volume 2,
+-- XGETBV)
+abbrev pub tells_enabled : ℕ → Instruction → Flags → Outcome
+tells_enabled number i flags = if number == 0 then counts xcr0 i flags else faults General i flags
+
 -- each operation by its page in the SDM's volume 2; a is the destination's number, b the source's and c that of what is read beside
 -- these, and `steps` the number of completed steps
 unfoldable pub core_outcome : CoreOp → Instruction → (a b c : ℕ) → Flags → (steps : ℕ) → Outcome
@@ -169,7 +175,7 @@ core_outcome Xadd i a b c flags steps = exchanges_sum i a b flags
 core_outcome Cmpxchg i a b c flags steps = compares i a b c flags
 core_outcome Cpuid i a b c flags steps = unperformed i flags
 core_outcome Cmpxchg8b i a b c flags steps = unperformed i flags
-core_outcome Xgetbv i a b c flags steps = unperformed i flags
+core_outcome Xgetbv i a b c flags steps = tells_enabled b i flags
 core_outcome Ldmxcsr i a b c flags steps = loads_control b i flags
 core_outcome Stmxcsr i a b c flags steps = gives b i flags
 core_outcome Vzeroupper i a b c flags steps = unperformed i flags

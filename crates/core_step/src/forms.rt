@@ -116,6 +116,7 @@ pub enum PlanForm {
     OnPair(PairForm),
     OnVectors(VectorForm),
     Clears(Clearing),
+    Identifies,
 }
 
 /// Where an operand in memory may stand.

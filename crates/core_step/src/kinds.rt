@@ -167,6 +167,13 @@ pub struct ClearPlan {
     pub next: u64,
 }
 
+/// CPUID.
+#[derive(Clone, Copy)]
+pub struct IdentifyPlan {
+    /// Where the next instruction stands.
+    pub next: u64,
+}
+
 /// An instruction with its operands found, by the way in which it is performed.
 #[derive(Clone, Copy)]
 pub enum Plan {
@@ -180,6 +187,8 @@ pub enum Plan {
     OnVectors(VectorPlan),
     /// Bytes of vector registers become 0.
     Clears(ClearPlan),
+    /// Four registers tell what the processor has.
+    Identifies(IdentifyPlan),
 }
 
 /// What comes of an instruction whose accesses can be made.

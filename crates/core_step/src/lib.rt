@@ -6,6 +6,8 @@
 mod acted;
 mod addressing;
 mod alignment;
+mod cpuid;
+mod features;
 mod fetch_cache;
 mod fetching;
 mod flags;
@@ -21,6 +23,7 @@ mod preparing;
 mod resolving;
 mod results;
 mod roles;
+mod save_area;
 mod sizes;
 mod strings;
 mod taking;

@@ -15,6 +15,7 @@ ghost use Rattle.core_step.specs.Plain.{plain_effect, steps_after, gprs_left, by
 ghost use Rattle.core_step.specs.Strings.{source_of, destination_of, strings_access, iterated, strings_effect};
 ghost use Rattle.core_step.specs.Pair.{pair_bytes, pair_effect};
 ghost use Rattle.core_step.specs.Vectors.{vectors_effect, clears_effect};
+ghost use Rattle.core_step.specs.Cpuid.{identify_effect};
 ghost use Rattle.vec_step.specs.Plan.{vector_access};
 ghost use Rattle.vec_step.specs.Fits.{PlanFits as VectorPlanFits};
 ghost use Rattle.core_step.specs.Plan.{next_of};
@@ -32,10 +33,11 @@ ghost use Rattle.row_table.specs.declared.kinds.Row.{Row as AnyRow};
 ghost use Rattle.core_step.specs.Machine.{IsWhole, IsLeft, IsCarriedOut, IsLocal, IsFramed, accesses, needed, state_of};
 
 use crate::acted::Acted;
+use crate::cpuid::identify;
 use crate::fetch_cache::FetchCache;
 use crate::fetching::{Fetched, fetch_outcome, read_run, read_whole};
 use crate::forms::{PairForm, PlainForm, PlanForm, StringForm, VectorForm};
-use crate::kinds::{ClearPlan, Instruction, Outcome};
+use crate::kinds::{ClearPlan, IdentifyPlan, Instruction, Outcome};
 use crate::pair::PairPlan;
 use crate::prepared::{Kept, Prepared};
 use crate::preparing::prepare;
@@ -180,6 +182,7 @@ impl Machine {
             PlanForm::OnPair(f) => self.carry_out_pair(f, next),
             PlanForm::OnVectors(f) => self.carry_out_vectors(f, &p.decoded.fields, next),
             PlanForm::Clears(clearing) => self.carry_out_clearing(*clearing, next),
+            PlanForm::Identifies => self.carry_out_identifying(next),
         }
     }
 
@@ -245,6 +248,15 @@ impl Machine {
         ensures { IsCarriedOut (λ w. Plan.Clears (record { clearing = clearing; next = next })) self.old self.new result }
     {
         self.clear(&ClearPlan { clearing, next })
+    }
+
+    // CPUID.
+    #[inline(never)]
+    fn carry_out_identifying(&mut self, next: u64) -> Acted
+        requires room { self.old.steps < 2 ^ 64 - 1 }
+        ensures { IsCarriedOut (λ w. Plan.Identifies (record { next = next })) self.old self.new result }
+    {
+        self.identify(&IdentifyPlan { next })
     }
 
     // Goes on with the next instruction.
@@ -325,6 +337,16 @@ impl Machine {
         ensures { IsLeft self.old self.new result (clears_effect i.now) }
     {
         clear(&mut self.vec, i.clearing);
+        self.move_on(i.next);
+        Acted::Done
+    }
+
+    // Performs CPUID.
+    fn identify(&mut self, i: &IdentifyPlan) -> Acted
+        requires room { self.old.steps < 2 ^ 64 - 1 }
+        ensures { IsLeft self.old self.new result (identify_effect i.now) }
+    {
+        identify(&mut self.gprs);
         self.move_on(i.next);
         Acted::Done
     }

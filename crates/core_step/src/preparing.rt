@@ -151,6 +151,7 @@ fn plan_form(row: &Row, d: &Decoded) -> PlanForm
         Way::Pair => PlanForm::OnPair(pair_form(row, d)),
         Way::Vectors => PlanForm::OnVectors(vector_form(row, d)),
         Way::Clears(clearing) => PlanForm::Clears(clearing),
+        Way::Identifies => PlanForm::Identifies,
     }
 }
 

@@ -5,11 +5,12 @@ ghost use Rattle.gpr_units.specs.Alu.{is_alu};
 ghost use Rattle.opmask_unit.specs.Opmasks.{is_width, is_combining, is_testing};
 ghost use Rattle.core_step.specs.Size.{bits_in, bytes_in};
 ghost use Rattle.core_step.specs.Fits.{OutcomeFits};
-ghost use Rattle.core_step.specs.Result.{reversed as reversed_to, sign_bits as sign_bits_of, counted_down as counted_down_to, passes as passes_of, gives as gives_of, jumps as jumps_of, loops as loops_of, pushes as pushes_of, pops as pops_of, exchanges_numbers, calls as calls_of, returns_to, calls_system as calls_system_of, counts as counts_of, breaks as breaks_of, loads_control as loads_control_of, exchanges_sum as exchanges_sum_of, compares as compares_of, multiplies as multiplies_of, multiplies_freely as multiplies_freely_of, computes as computes_of, picks as picks_of, divides as divides_of, shifts as shifts_of, scans as scans_of, core_outcome as core_outcome_of, gpr_outcome as gpr_outcome_of, bit_outcome as bit_outcome_of, combines as combines_of, shifts_opmask as shifts_opmask_of, tests as tests_of, mask_outcome as mask_outcome_of, outcome_of, faults as faults_of};
+ghost use Rattle.core_step.specs.Result.{reversed as reversed_to, sign_bits as sign_bits_of, counted_down as counted_down_to, passes as passes_of, gives as gives_of, jumps as jumps_of, loops as loops_of, pushes as pushes_of, pops as pops_of, exchanges_numbers, calls as calls_of, returns_to, calls_system as calls_system_of, counts as counts_of, breaks as breaks_of, loads_control as loads_control_of, tells_enabled as tells_enabled_of, exchanges_sum as exchanges_sum_of, compares as compares_of, multiplies as multiplies_of, multiplies_freely as multiplies_freely_of, computes as computes_of, picks as picks_of, divides as divides_of, shifts as shifts_of, scans as scans_of, core_outcome as core_outcome_of, gpr_outcome as gpr_outcome_of, bit_outcome as bit_outcome_of, combines as combines_of, shifts_opmask as shifts_opmask_of, tests as tests_of, mask_outcome as mask_outcome_of, outcome_of, faults as faults_of};
 
 use crate::acted::Acted;
 use crate::flags::with_low;
 use crate::kinds::{Instruction, Outcome};
+use crate::save_area::XCR0;
 use crate::sizes::Size;
 use bit_units::{bits, shift};
 use gpr_flags::{Fault, Flags, is_negative};
@@ -218,6 +219,19 @@ fn loads_control(number: u64, i: &Instruction, f: Flags) -> Outcome
     }
 }
 
+/// What is enabled of the extended state, in two halves; it is the only register of its kind, number 0.
+#[tactic(auto, unfolding(num_lanes::specs::Components::component_set))]
+fn tells_enabled(number: u64, i: &Instruction, f: Flags) -> Outcome
+    ensures outcome { result ≡ tells_enabled_of number i.now f }
+    ensures fits { OutcomeFits result f }
+{
+    if number == 0 {
+        counts(u64::from(XCR0), i, f)
+    } else {
+        faults(Fault::General, i, f)
+    }
+}
+
 /// What the core does by itself.
 #[tactic(auto, unfolding(crate::specs::Result::core_outcome))]
 fn core_outcome(
@@ -272,11 +286,12 @@ fn core_outcome(
         CoreOp::Cmpxchg => compares(i, a, b, c, f),
         CoreOp::Ldmxcsr => loads_control(b, i, f),
         CoreOp::Stmxcsr => gives(b, i, f),
-        CoreOp::Cpuid
-        | CoreOp::Cmpxchg8b
-        | CoreOp::Xgetbv
-        | CoreOp::Vzeroupper
-        | CoreOp::Vzeroall => faults(Fault::Undefined, i, f),
+        CoreOp::Xgetbv => tells_enabled(b, i, f),
+        CoreOp::Cpuid | CoreOp::Cmpxchg8b | CoreOp::Vzeroupper | CoreOp::Vzeroall => faults(
+            Fault::Undefined,
+            i,
+            f,
+        ),
     }
 }
 

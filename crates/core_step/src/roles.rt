@@ -165,6 +165,12 @@ fn core_roles(op: CoreOp) -> Roles
             also: Part::Rdx,
             ..IDLE
         },
+        CoreOp::Xgetbv => Roles {
+            destination: Part::Rax,
+            source: Part::Rcx,
+            also: Part::Rdx,
+            ..IDLE
+        },
         CoreOp::Cmpxchg => Roles {
             destination: Part::First,
             usage: Use::Update,
@@ -182,7 +188,6 @@ fn core_roles(op: CoreOp) -> Roles
         | CoreOp::Hlt
         | CoreOp::Cpuid
         | CoreOp::Nop
-        | CoreOp::Xgetbv
         | CoreOp::Vzeroupper
         | CoreOp::Vzeroall => IDLE,
     }

@@ -1,3 +1,4 @@
+mod identity;
 mod processor;
 mod vectors;
 

@@ -18,6 +18,8 @@ pub enum Way {
     Vectors,
     /// Bytes of vector registers become 0.
     Clears(Clearing),
+    /// Four registers tell what the processor has.
+    Identifies,
 }
 
 impl Way {
@@ -30,6 +32,7 @@ impl Way {
             CoreOp::Cmpxchg8b => Way::Pair,
             CoreOp::Vzeroupper => Way::Clears(Clearing::Upper),
             CoreOp::Vzeroall => Way::Clears(Clearing::All),
+            CoreOp::Cpuid => Way::Identifies,
             CoreOp::Mov
             | CoreOp::Movsxd
             | CoreOp::Movzx
@@ -67,7 +70,6 @@ impl Way {
             | CoreOp::Hlt
             | CoreOp::Syscall
             | CoreOp::Rdtsc
-            | CoreOp::Cpuid
             | CoreOp::Nop
             | CoreOp::Xadd
             | CoreOp::Cmpxchg

@@ -91,7 +91,7 @@ fn known_instructions_are_whole(rt: HostRuntime) {
     let none = plain(0);
     let mut longest = [0x66; 15];
     longest[14] = 0x90;
-    let rows: [(&[u8], Seen); 25] = [
+    let rows: [(&[u8], Seen); 28] = [
         (&[0x31, 0xff], plain(2)),
         (&[0xf3, 0xc3], repeated(0xf3, 2)),
         // Of F2 and F3, and of 64 and 65, the last counts.
@@ -125,6 +125,10 @@ fn known_instructions_are_whole(rt: HostRuntime) {
         // The map of 0F38.
         (&[0x0f, 0x38, 0xf0, 0x45, 0xf8], displaced(-8, 5)),
         (&[0x0f, 0x38, 0xf6, 0xc1], plain(4)),
+        // CPUID and XGETBV; what is no row of an opcode that has one has a shape, too.
+        (&[0x0f, 0xa2], plain(2)),
+        (&[0x0f, 0x01, 0xd0], plain(3)),
+        (&[0x0f, 0x01, 0x50, 0xf8], displaced(-8, 4)),
         (&longest, plain(15)),
     ];
     for (bytes, want) in rows {

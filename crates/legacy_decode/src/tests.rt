@@ -49,6 +49,14 @@ fn locked_two_byte(opcode: u8, modrm: Option<u8>) -> Fields {
     }
 }
 
+/// Fields of an instruction of the map of 0F, without LOCK.
+fn two_byte(opcode: u8, modrm: Option<u8>) -> Fields {
+    Fields {
+        map: 1,
+        ..plain(opcode, modrm)
+    }
+}
+
 /// The name of the operation, of those that the test meets, and the displacement.
 fn matched(fields: &Fields) -> Option<(&'static str, i64)> {
     let decoded = match fields.class {
@@ -60,6 +68,8 @@ fn matched(fields: &Fields) -> Option<(&'static str, i64)> {
         Op::Core(CoreOp::Ret) => "ret",
         Op::Core(CoreOp::Xchg) => "xchg",
         Op::Core(CoreOp::Cmpxchg8b) => "cmpxchg8b",
+        Op::Core(CoreOp::Cpuid) => "cpuid",
+        Op::Core(CoreOp::Xgetbv) => "xgetbv",
         Op::Gpr(GprOp::Add) => "add",
         Op::Gpr(GprOp::Neg) => "neg",
         Op::Gpr(GprOp::Xor) => "xor",
@@ -122,6 +132,53 @@ fn rows_are_spelled_by_the_rules_on_prefixes_and_registers(rt: HostRuntime) {
             None,
         ),
         ("f0 0f a3 08, bt", locked_two_byte(0xa3, Some(0x08)), None),
+    ] {
+        assert_eq!(rt; matched(&fields), want, "at {bytes}");
+    }
+}
+
+#[test]
+fn cpuid_and_xgetbv_are_spelled_by_their_bytes_alone(rt: HostRuntime) {
+    let xgetbv = two_byte(0x01, Some(0xd0));
+    for (bytes, fields, want) in [
+        ("0f a2", two_byte(0xa2, None), Some(("cpuid", 0))),
+        ("f0 0f a2", locked_two_byte(0xa2, None), None),
+        ("0f 01 d0", xgetbv, Some(("xgetbv", 0))),
+        (
+            "48 0f 01 d0",
+            Fields {
+                rex: true,
+                w: true,
+                ..xgetbv
+            },
+            Some(("xgetbv", 0)),
+        ),
+        (
+            "66 0f 01 d0",
+            Fields {
+                p66: true,
+                ..xgetbv
+            },
+            None,
+        ),
+        (
+            "f3 0f 01 d0",
+            Fields {
+                rep: 0xf3,
+                ..xgetbv
+            },
+            None,
+        ),
+        (
+            "f0 0f 01 d0",
+            Fields {
+                lock: true,
+                ..xgetbv
+            },
+            None,
+        ),
+        ("0f 01 d1, xsetbv", two_byte(0x01, Some(0xd1)), None),
+        ("0f 01 10, lgdt", two_byte(0x01, Some(0x10)), None),
     ] {
         assert_eq!(rt; matched(&fields), want, "at {bytes}");
     }

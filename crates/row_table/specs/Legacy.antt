@@ -1,10 +1,10 @@
 -- The legacy instructions, in the order of the SDM's opcode maps (Intel SDM volume 2, appendix A.3), by map and
 -- opcode: a comment gives what a line of the map says, and the term below it the rows.
 use Rattle.std.specs.Prelude.{List, [], ◌∷◌, ◌++◌, flat_map}
-use Rattle.row_table.specs.declared.kinds.Operands.TheVariants.{Implied, OpcodeReg, RaxOpcodeReg, OpcodeRegIb, OpcodeRegIv, Ib, Iw, Iz, Jb, Jz, AlIb, RaxIz, AlOb, RaxOv, ObAl, OvRax, Eb, Ev, EbGb, EvGv, GbEb, GvEv, GvEb, GvEw, GvEd, EbIb, EvIb, EvIz, EbOne, EvOne, EbCl, EvCl, GvEvIb, GvEvIz, EvGvIb, EvGvCl, GvM, MvGv, M, R}
+use Rattle.row_table.specs.declared.kinds.Operands.TheVariants.{Implied, OpcodeReg, RaxOpcodeReg, OpcodeRegIb, OpcodeRegIv, Ib, Iw, Iz, Jb, Jz, AlIb, RaxIz, AlOb, RaxOv, ObAl, OvRax, Eb, Ev, EbGb, EvGv, GbEb, GvEv, GvEb, GvEw, GvEd, EbIb, EvIb, EvIz, EbOne, EvOne, EbCl, EvCl, GvEvIb, GvEvIz, EvGvIb, EvGvCl, GvM, MvGv, M, R, ByteD0}
 use Rattle.row_table.specs.declared.kinds.Row.{Row}
 use Rattle.row_table.specs.declared.operations.Op.TheVariants.{Core, Gpr, Bit, String, Cross}
-use Rattle.row_table.specs.declared.operations.CoreOp.TheVariants.{Mov, Movsxd, Movzx, Movsx, Movbe, Movnti, Lea, Xchg, Push, Pop, Pushf, Popf, Leave, Call, Ret, Jmp, Jcc, Loopne, Loope, Loop, Jrcxz, Cmovcc, Setcc, Cbw, Cwd, Bswap, Cmc, Clc, Stc, Cld, Std, Sahf, Lahf, Int3, Hlt, Syscall, Rdtsc, Nop, Xadd, Cmpxchg, Cmpxchg8b, Ldmxcsr, Stmxcsr, Clflush}
+use Rattle.row_table.specs.declared.operations.CoreOp.TheVariants.{Mov, Movsxd, Movzx, Movsx, Movbe, Movnti, Lea, Xchg, Push, Pop, Pushf, Popf, Leave, Call, Ret, Jmp, Jcc, Loopne, Loope, Loop, Jrcxz, Cmovcc, Setcc, Cbw, Cwd, Bswap, Cmc, Clc, Stc, Cld, Std, Sahf, Lahf, Int3, Hlt, Syscall, Rdtsc, Cpuid, Nop, Xadd, Cmpxchg, Cmpxchg8b, Xgetbv, Ldmxcsr, Stmxcsr, Clflush}
 use Rattle.row_table.specs.declared.operations.StringOp.TheVariants.{Movs, Cmps, Stos, Lods, Scas}
 use Rattle.row_table.specs.declared.operations.GprOp.TheVariants.{Add, Or, Adc, Sbb, And, Sub, Xor, Cmp, Test, Imul, Inc, Dec, Adcx, Adox}
 use Rattle.row_table.specs.declared.operations.BitOp.TheVariants.{Shld, Shrd, Bt, Bts, Btr, Btc, Popcnt, Bsf, Tzcnt, Bsr, Lzcnt}
@@ -98,8 +98,10 @@ one_byte =
 -- the map of 0F (table A-3)
 unfoldable pub two_byte : List Row
 two_byte =
+    -- NP 01 with the ModRM byte D0: XGETBV
+    level_3 (np (scalar 0x01 ByteD0 32 (Core Xgetbv))) ∷ []
     -- 05: SYSCALL
-    always 0x05 Implied (Core Syscall) ∷ []
+    ++ always 0x05 Implied (Core Syscall) ∷ []
     -- 0D: no-operation with ModRM, without an access
     ++ sized 0x0D Ev (Core Nop) ∷ []
     -- 10 to 17: vector instructions
@@ -117,6 +119,8 @@ two_byte =
     -- 80+cc, 90+cc: Jcc by 4 bytes; SETcc Eb
     ++ conditions (always 0x80 Jz (Core Jcc))
     ++ conditions (byte 0x90 Eb (Core Setcc))
+    -- A2: CPUID
+    ++ scalar 0xA2 Implied 32 (Core Cpuid) ∷ []
     -- A3, A4, A5: BT Ev,Gv; SHLD Ev,Gv,Ib; Ev,Gv,CL
     ++ sized 0xA3 EvGv (Bit Bt) ∷ sized 0xA4 EvGvIb (Bit Shld) ∷ sized 0xA5 EvGvCl (Bit Shld) ∷ []
     -- AB, AC, AD: BTS Ev,Gv; SHRD Ev,Gv,Ib; Ev,Gv,CL

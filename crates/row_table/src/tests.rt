@@ -125,6 +125,20 @@ fn is_bswap(row: Option<Row>, width: u8) -> bool {
     }
 }
 
+fn is_xgetbv(row: Option<Row>) -> bool {
+    match row {
+        None => false,
+        Some(row) => matches!(row.op, Op::Core(CoreOp::Xgetbv)),
+    }
+}
+
+fn is_cpuid(row: Option<Row>) -> bool {
+    match row {
+        None => false,
+        Some(row) => matches!(row.op, Op::Core(CoreOp::Cpuid)),
+    }
+}
+
 #[test]
 fn known_instructions_have_their_rows(rt: HostRuntime) {
     // LFENCE is 0F AE E8, and with 66 or F3 another instruction.
@@ -150,6 +164,16 @@ fn known_instructions_have_their_rows(rt: HostRuntime) {
     assert!(rt; is_cmpxchg8b(found(0, false, false, 1, 0xc7, Some(0x08)), 64));
     assert!(rt; is_cmpxchg8b(found(0, false, true, 1, 0xc7, Some(0x08)), 128));
     assert!(rt; found(0, false, false, 1, 0xc7, Some(0xc8)).is_none());
+    // XGETBV is 0F 01 D0, with neither 66 nor F2 nor F3; 0F 01 D1 is XSETBV, and 0F 01 /2 in memory LGDT.
+    assert!(rt; is_xgetbv(found(0, false, false, 1, 0x01, Some(0xd0))));
+    assert!(rt; is_xgetbv(found(0, false, true, 1, 0x01, Some(0xd0))));
+    assert!(rt; found(0, true, false, 1, 0x01, Some(0xd0)).is_none());
+    assert!(rt; found(0xf3, false, false, 1, 0x01, Some(0xd0)).is_none());
+    assert!(rt; found(0, false, false, 1, 0x01, Some(0xd1)).is_none());
+    assert!(rt; found(0, false, false, 1, 0x01, Some(0x10)).is_none());
+    // CPUID is 0F A2, whatever the prefixes.
+    assert!(rt; is_cpuid(found(0, false, false, 1, 0xa2, None)));
+    assert!(rt; is_cpuid(found(0xf3, true, true, 1, 0xa2, None)));
     // FF /3 is a far call, 8D needs memory, 0F 0B is UD2.
     assert!(rt; found(0, false, false, 0, 0xff, Some(0x18)).is_none());
     assert!(rt; found(0, false, true, 0, 0x8d, Some(0xf5)).is_none());
@@ -276,6 +300,8 @@ fn opcodes_have_their_shapes(rt: HostRuntime) {
         (0, 0xe8, Some((false, 4))),
         (0, 0x81, Some((true, 10))),
         (0, 0x83, Some((true, 1))),
+        (1, 0x01, Some((true, 0))),
+        (1, 0xa2, Some((false, 0))),
         (1, 0x1f, Some((true, 0))),
         (1, 0x0b, None),
         // The immediate of TEST, by ModRM.reg.

@@ -21,6 +21,8 @@ fn name(op: Op) -> &'static str {
         Op::Core(CoreOp::Syscall) => "syscall",
         Op::Core(CoreOp::Xchg) => "xchg",
         Op::Core(CoreOp::Cmpxchg8b) => "cmpxchg8b",
+        Op::Core(CoreOp::Cpuid) => "cpuid",
+        Op::Core(CoreOp::Xgetbv) => "xgetbv",
         Op::Gpr(GprOp::Xor) => "xor",
         Op::Gpr(GprOp::Add) => "add",
         Op::Gpr(GprOp::Test) => "test",
@@ -76,7 +78,7 @@ fn told_of(bytes: &[u8]) -> Told {
 }
 
 /// Bytes, and what is seen in them.
-static SEEN_BYTES: [(&'static [u8], Told); 48] = [
+static SEEN_BYTES: [(&'static [u8], Told); 65] = [
     (&[0xf3, 0xc3], ("ret", 2, 0)),
     (&[0xc3, 0xc3], ("ret", 1, 0)),
     (&[0x0f, 0x05], ("syscall", 2, 0)),
@@ -124,6 +126,25 @@ static SEEN_BYTES: [(&'static [u8], Told); 48] = [
     (&[0xf2, 0x0f, 0x38, 0xf0, 0xc1], BAD),
     (&[0xf2, 0x0f, 0x38, 0xf0, 0x00], BAD),
     (&[0x8d, 0xc0], BAD),
+    // CPUID, whatever the prefixes, but for LOCK.
+    (&[0x0f, 0xa2], ("cpuid", 2, 0)),
+    (&[0x66, 0x0f, 0xa2], ("cpuid", 3, 0)),
+    (&[0xf3, 0x48, 0x0f, 0xa2], ("cpuid", 4, 0)),
+    (&[0xf0, 0x0f, 0xa2], BAD),
+    // XGETBV is one ModRM byte: others are XSETBV, VMCALL, RDTSCP and, in memory, LGDT.
+    (&[0x0f, 0x01, 0xd0], ("xgetbv", 3, 0)),
+    (&[0x67, 0x48, 0x0f, 0x01, 0xd0], ("xgetbv", 5, 0)),
+    (&[0x0f, 0x01, 0xd1], BAD),
+    (&[0x0f, 0x01, 0xc1], BAD),
+    (&[0x0f, 0x01, 0xf9], BAD),
+    (&[0x0f, 0x01, 0x10], BAD),
+    (&[0x0f, 0x01, 0x50, 0x08], BAD),
+    (&[0x66, 0x0f, 0x01, 0xd0], BAD),
+    (&[0xf2, 0x0f, 0x01, 0xd0], BAD),
+    (&[0xf3, 0x0f, 0x01, 0xd0], BAD),
+    (&[0xf0, 0x0f, 0x01, 0xd0], BAD),
+    (&[0x0f, 0x01], SHORT),
+    (&[0x0f, 0x01, 0x50], SHORT),
     // VPADDD of 512 bits, and the same behind an address size prefix.
     (&[0x62, 0xf1, 0x7d, 0x48, 0xfe, 0xc1], ("padd", 6, 0)),
     (&[0x67, 0x62, 0xf1, 0x7d, 0x48, 0xfe, 0xc1], ("padd", 7, 0)),

@@ -13,3 +13,12 @@ returns-in-Clears c =
     (λ w. plan_by_form form c.args.p.now.decoded.fields (next_of c.args.p.now.len (state_of old w)) (state_of old w))
     old c.carry_out_clearing.new.self c.carry_out_clearing.result in
     subst P (sym c.in-Clears.is) c.carry_out_clearing.ensures
+
+pub returns-in-Identifies : goal.returns-in-Identifies
+returns-in-Identifies c =
+    let old = c.args.self.now in
+    let P : PlanForm → Type 0 = λ form.
+    IsCarriedOut
+    (λ w. plan_by_form form c.args.p.now.decoded.fields (next_of c.args.p.now.len (state_of old w)) (state_of old w))
+    old c.carry_out_identifying.new.self c.carry_out_identifying.result in
+    subst P (sym c.in-Identifies.is) c.carry_out_identifying.ensures

@@ -1,8 +1,5 @@
-use Rattle.std.proofs.Common.{[], None, ap, ◌∙◌}
-use Rattle.guest_pages.specs.Pages.{byte_of}
-use Rattle.machine_state.proofs.MemoryLemmas.{length-bytes_at}
 use Rattle.core_step.specs.Kept.{fetched_of}
-use Rattle.core_step.proofs.FetchLemmas.{IsRead, fetches-whole}
+use Rattle.core_step.proofs.FetchLemmas.{fetches-whole}
 use Rattle.core_step.proofs.PageCounts.{fetch-touches}
 use Rattle.core_step.proofs.machine.Machine.fetch_by.Goals as goal
 

@@ -1,4 +1,4 @@
-use Rattle.std.proofs.Common.{true, refl, ap, ◌∙◌, sym, subst}
+use Rattle.std.proofs.Common.{true, ap, ◌∙◌, sym, subst}
 use Rattle.guest_pages.specs.Pages.{table_of}
 use Rattle.guest_pages.specs.Walk.{walk}
 use Rattle.core_step.specs.Pages.{TouchesAtMost}
