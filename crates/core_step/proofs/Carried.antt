@@ -81,6 +81,12 @@ module _ (p : Prepared) (h : IsPrepared p) (old new : Machine) (acted : Acted)
             (subst (P (Some stopped.stop)) (sym stopped.answer) (stop-needs stopped.stop.kind stopped.stop.miss slot))
       ]
 
+  pub carried-waits : (slot : _) → acted ≡ Need slot → new ≡ old
+  carried-waits slot is = elim carried.end as (λ _. new ≡ old) [
+    | inl finished ↦ absurd (finished.left.own slot is)
+    | inr stopped ↦ stopped.same
+  ]
+
   pub carried-pages : KeepsTable old.pages old.pages → KeepsTable old.pages new.pages
   carried-pages same = elim carried.end as (λ _. KeepsTable old.pages new.pages) [
     | inl finished ↦ finished.left.table

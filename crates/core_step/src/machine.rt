@@ -131,6 +131,8 @@ impl Machine {
         // before one that isn't allowed.
         ensures need { (w : Swap) (slot : ℕ) → (result ≡ Acted.Need slot)
             ↔ (needed (walk (table_of self.old.pages) (accesses d.now len (state_of self.old w))) ≡ Some slot) }
+        // Where a page is needed nothing has changed.
+        ensures waits { (slot : ℕ) → result ≡ Acted.Need slot → self.new ≡ self.old }
         ensures pages { KeepsTable self.old.pages self.new.pages }
         ensures counted { self.new.steps ≡ steps_after result self.old.steps }
         // An instruction that was decoded is performed: its answer is never that it is undefined.
@@ -154,6 +156,7 @@ impl Machine {
         ensures whole { IsWhole p.now.decoded p.now.len self.old self.new result }
         ensures need { (w : Swap) (slot : ℕ) → (result ≡ Acted.Need slot)
             ↔ (needed (walk (table_of self.old.pages) (accesses p.now.decoded p.now.len (state_of self.old w))) ≡ Some slot) }
+        ensures waits { (slot : ℕ) → result ≡ Acted.Need slot → self.new ≡ self.old }
         ensures pages { KeepsTable self.old.pages self.new.pages }
         ensures counted { self.new.steps ≡ steps_after result self.old.steps }
         ensures defined { result ≡ Acted.Trap Fault.Undefined → ⊥ }

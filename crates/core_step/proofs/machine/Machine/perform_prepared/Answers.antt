@@ -8,7 +8,7 @@ use Rattle.core_step.proofs.Performed.{row-performed}
 use Rattle.core_step.proofs.Local.{local}
 use Rattle.core_step.proofs.Frame.{framed}
 use Rattle.core_step.proofs.PageCounts.{none-touch}
-use Rattle.core_step.proofs.Carried.{aligned-is, carried-whole, carried-need, carried-defined, carried-few}
+use Rattle.core_step.proofs.Carried.{aligned-is, carried-whole, carried-need, carried-waits, carried-defined, carried-few}
 use Rattle.core_step.proofs.machine.Machine.perform_prepared.Goals as goal
 
 -- ---- alignment is broken
@@ -53,6 +53,11 @@ pub returns-clause-need : goal.returns-clause-need
 returns-clause-need c w slot =
     carried-need c.args.p.now c.requires.prepared c.args.self.now
     c.carry_out.new.self c.carry_out.result (λ w. sym (c.is_misaligned.ensures w) ∙ c.if-is_misaligned.false) c.carry_out.ensures w slot
+
+pub returns-clause-waits : goal.returns-clause-waits
+returns-clause-waits c slot is =
+    carried-waits c.args.p.now c.requires.prepared c.args.self.now
+    c.carry_out.new.self c.carry_out.result (λ w. sym (c.is_misaligned.ensures w) ∙ c.if-is_misaligned.false) c.carry_out.ensures slot is
 
 pub returns-clause-defined : goal.returns-clause-defined
 returns-clause-defined c =
