@@ -2,3 +2,4 @@ pub mod Rooms
 pub mod Memories
 pub mod Brings
 pub mod Trials
+pub mod Pagings

@@ -6,9 +6,11 @@ ghost use Rattle.host_edge.specs.Files.{Held, Becomes, KeepsFiles};
 ghost use Rattle.guest_pages.specs.Table.{Mapped};
 ghost use Rattle.guest_pages.specs.Pages.{mark_of};
 ghost use Rattle.guest_pages.specs.Changes.{is_unsaved};
+ghost use Rattle.guest_pages.specs.Laws.{AreCounted};
 ghost use Rattle.guest_pages.specs.Order.{IsSlotOf, IsResidentIn, IsAwayIn};
 ghost use Rattle.guest_pages.specs.Together.{AreClean};
 ghost use Rattle.swap_pager.specs.Bringing.{IsBrought, KeepsMemory, IsSaved, LetsGo, IsOnSwap, MustPut, NeedsSwap, IsCaused};
+ghost use Rattle.swap_pager.specs.Paging.{CanPage};
 ghost use Rattle.swap_pager.specs.Stages.{IsUnsaved, HasRoom, AreAwayBytes};
 
 use guest_pages::Pages;
@@ -69,6 +71,8 @@ impl Pager {
         ensures brought { OnOk result (IsBrought pages.old pages.new slot) }
         ensures memory { OnOk result (Becomes (KeepsMemory pages.old pages.new) (H.holds host.old) (H.holds host.new)) }
         ensures swap { OnOk result (LetsGo pages.old (H.holds host.old) (H.holds host.new)) }
+        ensures can_page { OnOk result (CanPage pages.old (H.holds host.old) (H.opened host.old)
+            → CanPage pages.new (H.holds host.new) (H.opened host.new)) }
         ensures loads { OnOk result (self.new.loads ≡ raised self.old.loads) }
         ensures err { OnErr result (self.new ≡ self.old) }
         ensures files { Becomes KeepsFiles (H.holds host.old) (H.holds host.new) }
@@ -106,6 +110,7 @@ fn save<H: Host>(pages: &Pages, slot: u32, host: &mut H) -> Result<(), HostCall>
 fn make_room<H: Host>(pages: &mut Pages, host: &mut H) -> Result<(), HostCall>
     requires open { pages.old.frames ≤ length pages.old.recent → length pages.old.slots ≤ H.opened host.old }
     ensures room { OnOk result (HasRoom pages.old pages.new (H.holds host.old) (H.holds host.new)) }
+    ensures counts { AreCounted pages.old }
     ensures files { Becomes KeepsFiles (H.holds host.old) (H.holds host.new) }
     ensures opened { H.opened host.new ≡ H.opened host.old }
     ensures cause { IsCaused ⊥ (MustPut pages.old) result (H.faults host.old) (H.faults host.new) }

@@ -1,8 +1,9 @@
-use Rattle.std.proofs.Common.{◌≡◌, Err, arith}
+use Rattle.std.proofs.Common.{◌≡◌, ◌∙◌, Err, arith}
 use Rattle.std.proofs.lemmas.Result.{err_from_is_err_and}
 use Rattle.swap_pager.specs.Bringing.{IsOnSwap, MustPut}
 use Rattle.swap_pager.proofs.Rooms.{was_swapped, slot_open, caused_by}
 use Rattle.swap_pager.proofs.Brings.{filled, brought, memory_kept, lets_go}
+use Rattle.swap_pager.proofs.Pagings.{can_page}
 use Rattle.swap_pager.proofs.pager.Pager.bring.Goals as goal
 
 pub fetch-requires-clause-open : goal.fetch-requires-clause-open
@@ -30,3 +31,8 @@ returns-clause-memory g c =
 
 pub returns-clause-swap : goal.returns-clause-swap
 returns-clause-swap g c = rw c.fetch.ensures.holds (lets_go c.args.pages.now c.make_room.new.pages _ _ c.in_ok-make_room.ensures.room)
+
+pub returns-clause-can_page : goal.returns-clause-can_page
+returns-clause-can_page g c = λ can.
+    can_page c.args.pages.now c.enter.new.self _ _ _ _ c.args.slot can c.make_room.ensures.counts c.requires.away
+    (returns-clause-brought g c) (returns-clause-memory g c) (c.fetch.ensures.opened ∙ c.make_room.ensures.opened)
