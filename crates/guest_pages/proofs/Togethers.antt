@@ -21,7 +21,7 @@ same_eqb : (a : ℕ) → (a == a) ≡ true
 same_eqb a = eq-eqb a a refl
 
 -- a page that stays as it is, in the slot that it has
-clean_kept : (old new : PagesValue) (swap : Swap) (page : ℕ) (was mapped : Mapped) → AreClean old swap → table_of old page ≡ Some was → was.slot ≡ mapped.slot → KeepsPage old new page
+pub clean_kept : (old new : PagesValue) (swap : Swap) (page : ℕ) (was mapped : Mapped) → AreClean old swap → table_of old page ≡ Some was → was.slot ≡ mapped.slot → KeepsPage old new page
     → is_clean (mark_of new page) ≡ true → (addr : ℕ) → addr / page_size ≡ page
     → byte_of new swap addr ≡ away_byte (is_kept (mark_of new page)) (swap mapped.slot) (addr % page_size)
 clean_kept old new swap page was mapped clean is slot_is kept unwritten addr on =
@@ -55,7 +55,7 @@ kept_off old new page other mark byte marks out = record {
   bytes = λ swap addr on. let there : (addr / page_size == page) ≡ false = rw on out in ap (λ (f : ℕ → ℕ). f addr) (byte swap) ∙ rw there refl;
 }
 
-fresh_byte : (resident : Bool) (saved : List ℕ) (at : ℕ) → is_clean (cond resident (Some Fresh) None) ≡ true → 0 ≡ away_byte (is_kept (cond resident (Some Fresh) None)) saved at
+pub fresh_byte : (resident : Bool) (saved : List ℕ) (at : ℕ) → is_clean (cond resident (Some Fresh) None) ≡ true → 0 ≡ away_byte (is_kept (cond resident (Some Fresh) None)) saved at
 fresh_byte true saved at h = refl
 fresh_byte false saved at h = absurd (false≢true h)
 
@@ -94,7 +94,7 @@ clean_unmapped old new swap page m clean = record {
       (cases_eq other page);
 }
 
-perms_slot : (perms : ℕ) (was : Option Mapped) (mapped : Mapped) → option_map (with_perms perms) was ≡ Some mapped → (before : Mapped) × (was ≡ Some before) × (before.slot ≡ mapped.slot)
+pub perms_slot : (perms : ℕ) (was : Option Mapped) (mapped : Mapped) → option_map (with_perms perms) was ≡ Some mapped → (before : Mapped) × (was ≡ Some before) × (before.slot ≡ mapped.slot)
 perms_slot perms None mapped h = cc
 perms_slot perms (Some before) mapped h = (before, refl, ap (λ (o : Option Mapped). slot_or o before.slot) h)
   where
@@ -187,10 +187,10 @@ pub byte_elsewhere : (pages : PagesValue) (addr : ℕ) (swap other : Swap) → (
 unfolding byte_of table_of
 byte_elsewhere pages addr swap other same = elsewhere_case (seek 0 pages.slots (addr / page_size)) (addr % page_size) swap other same
 
-ones : Swap
+pub ones : Swap
 ones slot = 1 ∷ []
 
-zeros : Swap
+pub zeros : Swap
 zeros slot = 0 ∷ []
 
 -- the first byte of a page on the swap is what the swap says; that of another isn't the swap's
@@ -259,7 +259,7 @@ none_table old new keeps before = record {
 }
 
 -- nor does a change of one page
-none_same : (old new : PagesValue) → NoneSwapped old → ((addr : ℕ) → byte_of old ones addr ≡ byte_of old zeros addr → byte_of new ones addr ≡ byte_of new zeros addr) → NoneSwapped new
+pub none_same : (old new : PagesValue) → NoneSwapped old → ((addr : ℕ) → byte_of old ones addr ≡ byte_of old zeros addr → byte_of new ones addr ≡ byte_of new zeros addr) → NoneSwapped new
 none_same old new before same = record {
   none = λ page. unswapped new page (same (page * page_size) (unseen old (page * page_size) ones zeros (before.none (page * page_size / page_size))));
 }

@@ -9,3 +9,4 @@ pub mod Covers
 pub mod Fits
 pub mod Unique
 pub mod Bounds
+pub mod Swaps

@@ -10,6 +10,6 @@ mod searches;
 
 pub use guest_pages::{Full, Pages};
 pub use kinds::{BreakFault, ProtectFault};
-pub use laws::{bounds_law, fitting_law, regions_law};
+pub use laws::{bounds_law, fitting_law, regions_law, swap_law};
 pub use machine_state::Perms;
 pub use regions::{Regions, pages_up};
