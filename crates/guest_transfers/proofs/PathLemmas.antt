@@ -1,16 +1,20 @@
 -- Lemmas on paths that are read part by part.
-use Rattle.std.proofs.Common.{◌≡◌, ℕ, zero, suc, ◌+◌, ◌-◌, ◌≤◌, ◌<◌, ◌==◌, List, [], ◌∷◌, ◌++◌, Bool, true, false, cond, not, Option, Some, None, nat_lt, refl, sym, ap, ◌∙◌, arith, ⊎_elim, take, length, append-nil, zero-add, add-zero}
+use Rattle.std.proofs.Common.{◌≡◌, ℕ, zero, suc, ◌+◌, ◌-◌, ◌≤◌, ◌<◌, ◌==◌, List, [], ◌∷◌, ◌++◌, Bool, true, false, cond, not, min, ◌%◌, Option, Some, None, nat_lt, refl, sym, ap, ◌∙◌, arith, ⊎_elim, take, length, append-nil, zero-add, add-zero}
 use Rattle.std.specs.List.{position_or_len}
 use Rattle.std.specs.Option.{option_map}
 use Rattle.std.proofs.lemmas.List.{take-append-le}
 use Rattle.std.proofs.Math.Seq.{take-append-add}
 use Rattle.std.proofs.lemmas.Bool.{cases_lt, ne_eqb, lt-ltb, le-ltb}
 use Rattle.machine_state.specs.declared.kinds.Kind.TheVariants.{Read}
+use Rattle.machine_state.specs.declared.kinds.Access.{Access}
 use Rattle.machine_state.specs.declared.kinds.Miss.{Miss}
-use Rattle.machine_state.specs.Memory.{Memory, Swap, first_miss, miss_at, bytes_at, allowed_run}
+use Rattle.machine_state.specs.Memory.{Memory, Swap, first_miss, miss_at, bytes_at, allowed_run, page_size}
 use Rattle.machine_state.proofs.MemoryLemmas.{first_miss-suc, or_else_none, bytes_at-zero}
-use Rattle.guest_pages.specs.Table.{perms_in}
+use Rattle.guest_pages.specs.Table.{blocked, perms_in}
 use Rattle.guest_pages.specs.Pages.{PagesValue, byte_of, memory_of, table_of}
+use Rattle.guest_transfers.specs.Moves.{IsPathReady, blocked_access}
+use Rattle.guest_transfers.specs.Pieces.{part_at, single}
+use Rattle.guest_transfers.proofs.PartLemmas.{asked-single, blocked_rest, ready_more, single_part}
 use Rattle.guest_transfers.specs.Paths.{Text, TooLong, Fault, end_of, path_at, path_in, path_max}
 
 -- ---- the first 0
@@ -157,3 +161,11 @@ module _ (pages : PagesValue) (addr : ℕ) (w : Swap) (text : List ℕ) (n : ℕ
   fault_path miss less is =
       ap path_in (run_text (omega arith) ∙ ap (λ (xs : List ℕ). text ++ xs) (run_miss (path_max - n) miss is) ∙ append-nil text)
       ∙ path_fault text (omega (arith, count)) none
+
+-- one more part of a path is ready
+pub path_ready_more : (pages : PagesValue) (addr n len to : ℕ) → IsPathReady pages addr n → n < path_max → len ≡ min (path_max - n) (page_size - (addr + n) % page_size)
+    → blocked (table_of pages) Read (addr + n) len ≡ None → to ≤ n + len → IsPathReady pages addr to
+path_ready_more pages addr n len to ready less is free le =
+    let part : Access = record { kind = Read; addr = addr + n; len = len } in
+    let here : part ≡ part_at Read (single addr path_max) n = rw is (sym (single_part Read addr path_max n less)) in
+    ready_more (blocked_access (table_of pages)) (blocked_rest (table_of pages)) Read (single addr path_max) 0 n to part here ready (omega (arith, less, asked-single addr path_max)) free le

@@ -42,13 +42,15 @@ abbrev pub AreReady : (Access → Option Miss) → Kind → List Piece → (from
 AreReady keeps kind pieces from to =
     (done : ℕ) → from ≤ done → done < to → done < asked pieces → keeps (part_at kind pieces done) ≡ None
 
--- the parts up to the stop were ready; where the next is away, its page is in this slot
+-- the parts up to the stop were ready; where the next is away, its page is in this slot; a call on the stream fails in a part that
+-- is ready
 abbrev pub Stops : (Access → Option Miss) → Kind → List Piece → (from : ℕ) → Stop → Type 0
 Stops keeps kind pieces from (Whole done) = (from ≤ done) × (done ≤ asked pieces) × AreReady keeps kind pieces from (done + 1)
 Stops keeps kind pieces from (Away done slot) =
     (from ≤ done) × (done < asked pieces) × AreReady keeps kind pieces from done
     × (keeps (part_at kind pieces done) ≡ Some (AwayMiss slot))
-Stops keeps kind pieces from Failed = ⊤
+Stops keeps kind pieces from Failed =
+    (done : ℕ) × (from ≤ done) × (done < asked pieces) × AreReady keeps kind pieces from (done + 1)
 
 -- a call that failed is counted, and nothing else is
 abbrev pub IsCounted : (old new : ℕ) → Stop → Type 0
@@ -143,6 +145,10 @@ Draws old new addr len from number number' (Away done slot) =
 Draws old new addr len from number number' Failed = ⊥
 
 -- ---- paths
+-- nothing keeps the parts of a path up to so many bytes from being read now
+abbrev pub IsPathReady : PagesValue → (addr to : ℕ) → Type 0
+IsPathReady pages addr to = AreReady (blocked_access (table_of pages)) Read (single addr path_max) 0 to
+
 -- a path goes on with a part that is away: the bytes before it can be read, and none of them is 0
 pub record PathWaits (pages : PagesValue) (addr slot : ℕ) : Type 0 where
   pub done : ℕ
@@ -150,12 +156,22 @@ pub record PathWaits (pages : PagesValue) (addr slot : ℕ) : Type 0 where
   pub begins : (done ≡ 0) ⊎ ((addr + done) % page_size ≡ 0)
   pub readable : first_miss (perms_in (table_of pages)) Read addr done ≡ None
   pub more : (swap : Swap) → end_of (bytes_at (byte_of pages swap) addr done) ≡ None
+  pub ready : IsPathReady pages addr done
   pub away : blocked_access (table_of pages) (part_at Read (single addr path_max) done) ≡ Some (AwayMiss slot)
 
+-- a byte of a path can't be read; nothing keeps the parts before it from being read
+pub record PathFaults (pages : PagesValue) (addr : ℕ) : Type 0 where
+  pub done : ℕ
+  pub within : done < path_max
+  pub ready : IsPathReady pages addr done
+  pub denied : IsSome (miss_at (perms_in (table_of pages)) Read (addr + done))
+
+-- the path, and the parts that it was read from, the one with its 0 among them
 abbrev pub ReadsPath : PagesValue → (addr : ℕ) → PathRead → Type 0
-ReadsPath pages addr (ReadText text) = (swap : Swap) → path_at (memory_of pages swap) addr ≡ Text text.items
-ReadsPath pages addr ReadTooLong = (swap : Swap) → path_at (memory_of pages swap) addr ≡ TooLong
-ReadsPath pages addr ReadFault = (swap : Swap) → path_at (memory_of pages swap) addr ≡ Fault
+ReadsPath pages addr (ReadText text) =
+    ((swap : Swap) → path_at (memory_of pages swap) addr ≡ Text text.items) × IsPathReady pages addr (length text.items + 1)
+ReadsPath pages addr ReadTooLong = ((swap : Swap) → path_at (memory_of pages swap) addr ≡ TooLong) × IsPathReady pages addr path_max
+ReadsPath pages addr ReadFault = ((swap : Swap) → path_at (memory_of pages swap) addr ≡ Fault) × PathFaults pages addr
 ReadsPath pages addr (ReadAway slot) = PathWaits pages addr slot
 
 -- ---- lists of buffers
