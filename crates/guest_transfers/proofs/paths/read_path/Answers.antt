@@ -39,11 +39,11 @@ returns-in-Some c =
     let count = length-append text (take c.in-Some.end c.in-Ok.bytes.now) in
     rw c.put.ensures (
       λ w. (
-      let bytes : c.in-Ok.bytes.now ≡ bytes_at (byte_of c.args.pages.now w) (c.args.addr + length text) c.min-len.result = c.in-Ok.ensures.bytes.bytes w ∙ rw n refl in
-      found_path c.args.pages.now c.args.addr w text (length text) refl (inv.bytes w) inv.readable inv.more c.min-len.result c.in-Some.end c.in-Ok.bytes.now bytes part
-      (omega (arith, c.min-len.ensures, c.len-in-loop-text-2.ensures.value, inv.within)) end),
+          let bytes : c.in-Ok.bytes.now ≡ bytes_at (byte_of c.args.pages.now w) (c.args.addr + length text) c.min-len.result = c.in-Ok.ensures.bytes.bytes w ∙ rw n refl in
+          found_path c.args.pages.now c.args.addr w text (length text) refl (inv.bytes w) inv.readable inv.more c.min-len.result c.in-Some.end c.in-Ok.bytes.now bytes part
+          (omega (arith, c.min-len.ensures, c.len-in-loop-text-2.ensures.value, inv.within)) end),
       path_ready_more c.args.pages.now c.args.addr (length text) c.min-len.result (length (text ++ take c.in-Some.end c.in-Ok.bytes.now) + 1) inv.ready less len free
-      (omega (arith, within, short, count, c.in-Ok.ensures.bytes.len_is)),
+          (omega (arith, within, short, count, c.in-Ok.ensures.bytes.len_is)),
     )
 
 pub loop-text-preserved : goal.loop-text-preserved
@@ -99,8 +99,7 @@ returns-in-None-away c =
     let less : length text < path_max = omega (arith, c.loop-text-test.true, c.len.ensures.value) in
     let stopped : blocked (table_of c.args.pages.now) Read (c.args.addr + length text) c.min-len.result ≡ Some c.in-Err.miss = rw n at c.in-Err.ensures.answer in
     let first = denied_first (table_of c.args.pages.now) Read (c.args.addr + length text) c.min-len.result c.in-Err.miss (omega (arith, c.min-len.ensures, n, m, less)) (omega (arith, c.min-len.ensures, n, m))
-    stopped c.in-None-away.ensures in
-    (
+    stopped c.in-None-away.ensures in (
       λ w. fault_path c.args.pages.now c.args.addr w text (length text) refl (inv.bytes w) inv.readable inv.more first.0 less first.1,
       record { done = length text; within = less; ready = inv.ready; denied = ap is_some first.1 },
     )
@@ -109,8 +108,7 @@ pub returns : goal.returns
 returns c =
     let text = c.loop-text.text.items in
     let inv = c.loop-text.invariant in
-    let whole : length text ≡ path_max = omega (arith, c.loop-text-test.false, c.len.ensures.value, inv.within) in
-    (
+    let whole : length text ≡ path_max = omega (arith, c.loop-text-test.false, c.len.ensures.value, inv.within) in (
       λ w. long_path c.args.pages.now c.args.addr w text (length text) refl (inv.bytes w) inv.readable inv.more whole,
       rw whole at inv.ready,
     )

@@ -27,13 +27,12 @@ returns-in-Err-put-clause-puts g c w =
 pub returns-in-Err-put-clause-stops : goal.returns-in-Err-put-clause-stops
 returns-in-Err-put-clause-stops g c =
     let less : c.loop-done.done < asked c.args.pieces.now = omega (arith, c.loop-done-test.true, c.total_len-count.ensures) in
-    let some = c.part-next.ensures.some less in
-    (
+    let some = c.part-next.ensures.some less in (
       c.loop-done.done,
       c.loop-done.invariant.after,
       less,
       ready_more (blocked_access (table_of c.args.pages.now)) (blocked_rest (table_of c.args.pages.now)) Read c.args.pieces.now c.args.from c.loop-done.done (c.loop-done.done + 1)
-      c.part-next.result c.part-next.ensures.value c.loop-done.invariant.ready less c.in-Ok.ensures.answer (omega (arith, some)),
+          c.part-next.result c.part-next.ensures.value c.loop-done.invariant.ready less c.in-Ok.ensures.answer (omega (arith, some)),
     )
 
 pub away_slot-requires : goal.away_slot-requires

@@ -27,13 +27,12 @@ returns-in-Err-take_part-clause-stops g c =
     let less : c.loop-done.done < asked c.args.pieces.now = omega (arith, c.loop-done-test.true, c.total_len-count.ensures) in
     let some = c.part-next.ensures.some less in
     let table = c.loop-done.invariant.took.moved.keeps.table in
-    let free : blocked (table_of c.args.pages.now) Write c.part-next.result.addr c.part-next.result.len ≡ None = rw table at (answered_ok _ c.in-Ok.field-0 c.in-Ok.ensures.answer) in
-    (
+    let free : blocked (table_of c.args.pages.now) Write c.part-next.result.addr c.part-next.result.len ≡ None = rw table at (answered_ok _ c.in-Ok.field-0 c.in-Ok.ensures.answer) in (
       c.loop-done.done,
       c.loop-done.invariant.after,
       less,
       ready_more (blocked_access (table_of c.args.pages.now)) (blocked_rest (table_of c.args.pages.now)) Write c.args.pieces.now c.args.from c.loop-done.done (c.loop-done.done + 1)
-      c.part-next.result c.part-next.ensures.value c.loop-done.invariant.ready less free (omega (arith, some)),
+          c.part-next.result c.part-next.ensures.value c.loop-done.invariant.ready less free (omega (arith, some)),
     )
 
 pub loop-done-preserved : goal.loop-done-preserved
