@@ -28,7 +28,7 @@ use Rattle.linux_calls.specs.Call.{low, rax, rdi}
 use Rattle.linux_calls.specs.Transfers.{read_through, reads_at, write_through, writes_at}
 use Rattle.linux_calls.specs.Waiting.{IsListed, IsListedBy}
 use Rattle.linux_calls.specs.Table.{call_numbered}
-use Rattle.linux_calls.specs.Rest.{call_transfer, transfer_of}
+use Rattle.linux_calls.specs.Rest.{call_transfer, outside_calls, transfer_of}
 
 -- a descriptor that writes is open
 pub opened_some : (place : Option Place) → does_write place ≡ true → IsSome place
@@ -229,6 +229,47 @@ steady gprs files from done transfer is_steady e = here (call_numbered (rax gprs
     here : (o : Option Call) → elim o [ None ↦ None | Some call ↦ call_transfer call gprs files from ] ≡ Some transfer → elim o [ None ↦ None | Some call ↦ call_transfer call gprs files done ] ≡ Some transfer
     here None h = h
     here (Some call) h = by_call call h
+
+-- how much has moved doesn't change the calls on the outside that a transfer makes
+write_outside : (fd size from done : ℕ) (place : Place) → outside_calls (writes_at fd size from place) ≡ outside_calls (writes_at fd size done place)
+write_outside fd size from done place =
+    here place.writes (is_none place.file) (cond place.append (size - from) place.at) (cond place.append (size - done) place.at) (cond (fd == 1) (Some PutsOut) (cond (fd == 2) (Some PutsErr) None))
+  where
+    here : (writes stream : Bool) (at at' : ℕ) (other : Option Transfer)
+        → outside_calls (cond (not writes) None (cond (not stream) (Some (Writes fd at true)) other)) ≡ outside_calls (cond (not writes) None (cond (not stream) (Some (Writes fd at' true)) other))
+    here false stream at at' other = refl
+    here true false at at' other = refl
+    here true true at at' other = refl
+
+outside_through : (files : FilesValue) (fd from done : ℕ) → outside_calls (write_through files fd from) ≡ outside_calls (write_through files fd done)
+unfolding write_through
+outside_through files fd from done = here (place_at files.places fd)
+  where
+    here : (o : Option Place) → outside_calls (elim o [ None ↦ None | Some place ↦ writes_at fd (unwrap_or (size_at files fd) 0) from place ])
+        ≡ outside_calls (elim o [ None ↦ None | Some place ↦ writes_at fd (unwrap_or (size_at files fd) 0) done place ])
+    here None = refl
+    here (Some place) = write_outside fd (unwrap_or (size_at files fd) 0) from done place
+
+pub outside_steady : (gprs : List ℕ) (files : FilesValue) (from done : ℕ) → outside_calls (transfer_of gprs files from) ≡ outside_calls (transfer_of gprs files done)
+unfolding transfer_of
+outside_steady gprs files from done = here (call_numbered (rax gprs))
+  where
+    by_call : (call : Call) → outside_calls (call_transfer call gprs files from) ≡ outside_calls (call_transfer call gprs files done)
+    by_call Write = outside_through files (low (rdi gprs)) from done
+    by_call Writev = outside_through files (low (rdi gprs)) from done
+    by_call other = refl
+
+    here : (o : Option Call) → outside_calls (elim o [ None ↦ None | Some call ↦ call_transfer call gprs files from ])
+        ≡ outside_calls (elim o [ None ↦ None | Some call ↦ call_transfer call gprs files done ])
+    here None = refl
+    here (Some call) = by_call call
+
+-- a write that goes on makes no call on the outside
+pub outside_writes : (gprs : List ℕ) (files files' : FilesValue) (from fd at : ℕ) (moves : Bool) (stop : Stop) → transfer_of gprs files from ≡ Some (Writes fd at moves)
+    → ((done slot : ℕ) → stop ≡ Away done slot → transfer_of gprs files' done ≡ Some (Writes fd at moves)) → (done slot : ℕ) → stop ≡ Away done slot
+    → outside_calls (transfer_of gprs files' 0) ≡ outside_calls (transfer_of gprs files 0)
+outside_writes gprs files files' from fd at moves stop is still done slot e =
+    outside_steady gprs files' 0 done ∙ ap outside_calls (still done slot e) ∙ sym (ap outside_calls is) ∙ outside_steady gprs files from 0
 
 -- ---- the transfers through a descriptor are none of random bytes
 listed_one : (o : Option Transfer) (t : Transfer) → o ≡ Some t → IsListedBy o → IsListed t

@@ -10,7 +10,7 @@ use Rattle.linux_calls.specs.declared.kinds.Halt.{Halt}
 use Rattle.linux_calls.specs.declared.kinds.Halt.TheVariants.{Refused, Need, Failed}
 use Rattle.linux_calls.specs.Call.{Called, Exits as ExitsWith, refuses, rax, rdi}
 use Rattle.linux_calls.specs.Table.{act, acted, call_numbered, called, ends_guest, exit_call}
-use Rattle.linux_calls.specs.Rest.{listing_rest, moving_rest, rest_of, stage_rest, transfer_of}
+use Rattle.linux_calls.specs.Rest.{ProgressValue, listing_rest, moving_rest, rest_of, stage_rest, transfer_of}
 use Rattle.linux_calls.specs.Transfers.{list_rest, transfer_rest}
 use Rattle.linux_calls.specs.Mapping.{copy_rest}
 use Rattle.linux_calls.specs.Errnos.{enosys}
@@ -18,10 +18,14 @@ use Rattle.linux_calls.specs.declared.kinds.Transfer.{Transfer}
 use Rattle.linux_calls.specs.View.{View, StandsFor, with_parts}
 use Rattle.linux_calls.specs.Waiting.{is_start, CanGoOnBy, IsNeeded, NeedsAtStart, NeedsBy, NeedsFor, NeedsIn, NeedsPathIn, NeedsRecord}
 use Rattle.linux_calls.specs.Waiting.{NeedsRecordIn}
-use Rattle.linux_calls.specs.Following.{Does, DoesPart, FollowsAt, exit_by, exit_of}
+use Rattle.linux_calls.specs.Following.{Does, DoesPart, FollowsAt, KeepsAside, exit_by, exit_of}
 use Rattle.linux_calls.specs.Outside.{Streams}
 use Rattle.linux_calls.specs.declared.kinds.Call.TheVariants.{Exit, ExitGroup}
 use Rattle.linux_calls.specs.declared.kinds.CallEnd.TheVariants.{Exit as ExitEnd}
+
+-- a progress by its stage
+pub stands_at : (progress : ProgressValue) (stage : Stage) → progress.stage ≡ stage → record { stage = stage; pieces = progress.pieces } ≡ progress
+stands_at progress stage is = ap (λ (s : Stage). let at : ProgressValue = record { stage = s; pieces = progress.pieces } in at) (sym is)
 
 -- the whole of a call is left at its beginning
 pub rest_begins : (v : View) (call : Call) (swap : Swap) (base : Whole) → v.progress.stage ≡ Start → call_numbered (rax v.gprs) ≡ Some call
@@ -151,5 +155,9 @@ exit_follows v code s e swap from stands told =
     let x = exits v code e in
     let rest : rest_of v.progress from ≡ exit_call (with_parts swap v from) =
     ap (rest_of v.progress) (sym stands.parts) ∙ rest_begins v x.call swap from x.begins x.is ∙ ends_act x.call (with_parts swap v from) x.ends in
-    let P : Called → Type 0 = λ to. (to.outcome ≡ ExitsWith code) × StandsFor swap v s to.world in
-    subst P (sym rest) (ap (λ (n : ℕ). ExitsWith n) (sym x.code_is), record { parts = refl; streams_are = stands.streams_are })
+    let P : Called → Type 0 = λ to. (to.outcome ≡ ExitsWith code) × StandsFor swap v s to.world × KeepsAside from to.world in
+    subst P (sym rest) (
+      ap (λ (n : ℕ). ExitsWith n) (sym x.code_is),
+      record { parts = refl; streams_are = stands.streams_are },
+      record { flags = refl; rip = refl; extended = refl },
+    )

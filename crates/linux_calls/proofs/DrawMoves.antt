@@ -7,6 +7,7 @@ use Rattle.machine_state.proofs.MemoryLemmas.{length-bytes_at}
 use Rattle.host_edge.specs.declared.outside.HostCall.{HostCall}
 use Rattle.guest_pages.specs.Table.{perms_in}
 use Rattle.guest_pages.specs.Pages.{PagesValue, table_of}
+use Rattle.guest_pages.specs.Changes.{KeepsTable}
 use Rattle.guest_transfers.specs.Pieces.{asked, pieces_from, single, spread}
 use Rattle.guest_transfers.specs.Draws.{drawn, drawn_byte, number_after}
 use Rattle.guest_transfers.specs.Moves.{Moved, Draws as DrawsTo, Stops, blocked_access}
@@ -70,6 +71,12 @@ module _ (v : View) (from : ℕ) (pages : PagesValue) (number addr len : ℕ) (o
 
   moved : (n : ℕ) → Moved v.pages pages (single addr len) from (drawn v.random (from % 8) n) → Moved v.pages pages v.progress.pieces from (drawn v.random (from % 8) n)
   moved n m = subst (λ (ps : List Piece). Moved v.pages pages ps from (drawn v.random (from % 8) n)) (sym one) m
+
+  -- what was drawn leaves the table
+  pub draws_keep : (stop : Stop) → DrawsTo v.pages pages addr len from v.random number stop → KeepsTable v.pages pages
+  draws_keep (Whole done) draws = let m = draws.2 in m.keeps
+  draws_keep (Away done slot) draws = let m = draws.1 in m.keeps
+  draws_keep Failed draws = absurd draws
 
   pub draws_do : (stop : Stop) (call : HostCall) (new : View) (result : Result ℕ Halt) → ((done : ℕ) → transfer_of v.gprs v.files done ≡ Some Draws)
       → DrawsTo v.pages pages addr len from v.random number stop → Stops (blocked_access (table_of v.pages)) Write v.progress.pieces from stop

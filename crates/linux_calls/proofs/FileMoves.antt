@@ -11,6 +11,7 @@ use Rattle.machine_state.specs.declared.kinds.Kind.TheVariants.{Read, Write}
 use Rattle.machine_state.specs.declared.kinds.Place.{Place}
 use Rattle.guest_pages.specs.Table.{perms_in}
 use Rattle.guest_pages.specs.Pages.{PagesValue, table_of, byte_of, memory_of}
+use Rattle.guest_pages.specs.Changes.{KeepsTable}
 use Rattle.guest_files.specs.Checks.{does_write, is_stream}
 use Rattle.guest_files.specs.Content.{piece_of, count_below}
 use Rattle.guest_files.specs.Files.{FilesValue, AreFiles}
@@ -132,6 +133,12 @@ module _ (v : View) (fd at : ℕ) (moves : Bool) (from : ℕ) (pages : PagesValu
       ∙ ap (λ (w : World). reads_rest fd at moves v.progress.pieces done w) (sym (world_moved v pages swap base v.progress.pieces from bytes reads.1))
       ∙ reads_more fd at moves v.progress.pieces from done (with_parts swap v base) stops.0 (let less = stops.1 in omega arith) reads.0)
   reads_do Failed new result is reads stops ends = absurd reads
+
+-- what was read leaves the table
+pub reads_keep : (old new : PagesValue) (pieces : List Piece) (from : ℕ) (files : FilesValue) (fd at : ℕ) (stop : Stop) → ReadsTo old new pieces from files fd at stop → KeepsTable old new
+reads_keep old new pieces from files fd at (Whole done) reads = let moved = reads.1 in moved.keeps
+reads_keep old new pieces from files fd at (Away done slot) reads = let moved = reads.1 in moved.keeps
+reads_keep old new pieces from files fd at Failed reads = absurd reads
 
 -- ---- writes
 length_between : (byte : ℕ → ℕ) (pieces : List Piece) (from done : ℕ) → from ≤ done → done ≤ asked pieces → length (bytes_between byte pieces from done) ≡ done - from

@@ -1,9 +1,12 @@
+pub mod UnitLemmas
+pub mod SwapLemmas
 pub mod RecordLemmas
 pub mod RangeLemmas
 pub mod ChangeLemmas
 pub mod MappingLemmas
 pub mod ZeroLemmas
 pub mod MoveLemmas
+pub mod WaitLemmas
 pub mod TakeLemmas
 pub mod PutLemmas
 pub mod FileMoves
@@ -16,3 +19,5 @@ pub mod PathLemmas
 pub mod CallLemmas
 pub mod SettleLemmas
 pub mod CopyLemmas
+pub mod NeedLemmas
+pub mod GrowthLemmas

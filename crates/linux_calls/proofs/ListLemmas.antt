@@ -1,6 +1,7 @@
 -- Lists of buffers, in parts.
 use Rattle.std.proofs.Common.{◌≡◌, ℕ, zero, suc, ◌+◌, ◌-◌, ◌*◌, ◌≤◌, false, not, List, [], ◌∷◌, ◌++◌, length, Option, Some, None, IsSome}
-use Rattle.std.proofs.Common.{is_none, Err, refl, sym, ap, ◌∙◌, subst, arith, add-zero, append_assoc, length-append}
+use Rattle.std.proofs.lemmas.Bool.{cases_lt}
+use Rattle.std.proofs.Common.{◌<◌, ◌⊎◌, inl, inr, ⊎_elim, Result, is_none, Err, refl, sym, ap, ◌∙◌, subst, arith, add-zero, append_assoc, length-append}
 use Rattle.machine_state.specs.Memory.{Swap, miss_at, first_miss, or_else}
 use Rattle.machine_state.specs.World.{World}
 use Rattle.machine_state.specs.declared.kinds.Kind.TheVariants.{Read}
@@ -10,10 +11,13 @@ use Rattle.guest_pages.specs.Table.{perms_in, blocked, first_away}
 use Rattle.guest_pages.specs.Pages.{PagesValue, table_of, byte_of, memory_of}
 use Rattle.guest_pages.proofs.Walks.{blocked_part}
 use Rattle.guest_files.specs.Checks.{first_failing}
+use Rattle.guest_files.specs.Errnos.{einval}
+use Rattle.guest_transfers.specs.Pieces.{asked, most_asked}
 use Rattle.guest_transfers.specs.Buffers.{buffer_at, buffers_at, most_buffers, record_size}
 use Rattle.guest_transfers.specs.Moves.{AreRead, AreReadable, ListFaults, ListWaits, record_place}
 use Rattle.guest_transfers.specs.declared.kinds.Piece.{Piece}
-use Rattle.linux_calls.specs.declared.kinds.Halt.TheVariants.{Need}
+use Rattle.linux_calls.specs.declared.kinds.Halt.{Halt}
+use Rattle.linux_calls.specs.declared.kinds.Halt.TheVariants.{Need, Refused}
 use Rattle.linux_calls.specs.declared.kinds.Stage.TheVariants.{Listing}
 use Rattle.linux_calls.specs.declared.kinds.Transfer.{Transfer}
 use Rattle.linux_calls.specs.Errnos.{efault}
@@ -23,6 +27,9 @@ use Rattle.linux_calls.specs.Rest.{listing_rest, rest_of, transfer_of}
 use Rattle.linux_calls.specs.View.{View, with_parts}
 use Rattle.linux_calls.specs.Waiting.{IsListed, IsListedBy, IsNeeded}
 use Rattle.linux_calls.specs.Following.{DoesPart}
+use Rattle.linux_calls.specs.Units.{GoesOn, WaitsIn, list_rank, listing_from, moving_from, record_pages, standing_at, unit_pages, unit_rank}
+use Rattle.linux_calls.proofs.UnitLemmas.{left_le}
+use Rattle.linux_calls.proofs.WaitLemmas.{waits_below}
 
 buffers-append : (byte : ℕ → ℕ) (at m n : ℕ) → buffers_at byte at (m + n) ≡ buffers_at byte at m ++ buffers_at byte (at + record_size * m) n
 unfolding buffers_at
@@ -149,3 +156,32 @@ module _ (transfer : Transfer) (v : View) (old new : List Piece) where
           place = waits.place;
         };
       }
+
+  -- a list that waits has more of its records, or stands at the same one
+  pub list_goes : (slot : ℕ) → count ≤ most_buffers → AreRead v.pages addr old new (length new) → ListWaits v.pages addr count old new slot
+      → GoesOn (standing_at v (listing_from old)) listing
+  unfolding unit_rank unit_pages
+  list_goes slot most read waits =
+      let le = longer v.pages addr old new read in
+      let within = waits.within in
+      record {
+        most = omega arith;
+        unit = ⊎_elim
+            (λ (less : length old < length new). inl (omega arith))
+            (λ (none : length new ≤ length old). inr (
+            let same : length new ≡ length old = omega arith in
+            record { rank = ap (list_rank v.gprs) same; pages = ap (record_pages v.gprs) same; table = refl; recent = refl }))
+            (cases_lt (length old) (length new));
+        calls = refl;
+      }
+
+  -- a list that was read goes on with its transfer
+  pub list_joins : (after : View) (result : Result ℕ Halt) → (most_asked < asked new → result ≡ Err (Refused einval))
+      → WaitsIn (standing_at v (moving_from new 0)) after result → WaitsIn (standing_at v (listing_from old)) after result
+  unfolding unit_rank
+  list_joins after result refused waits = ⊎_elim
+      (λ (more : most_asked < asked new). subst (λ (r : Result ℕ Halt). WaitsIn (standing_at v (listing_from old)) after r) (sym (refused more)) tt)
+      (λ (fit : asked new ≤ most_asked).
+      let le = left_le new 0 in
+      waits_below (standing_at v (listing_from old)) (standing_at v (moving_from new 0)) after result (omega (arith, le, fit)) (omega arith) refl waits)
+      (cases_lt most_asked (asked new))

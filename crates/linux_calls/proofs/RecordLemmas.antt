@@ -1,19 +1,21 @@
 -- Records that calls write.
-use Rattle.std.proofs.Common.{◌≡◌, ℕ, List, length, Option, Some, None, Ok, Err, refl, sym, subst}
+use Rattle.std.proofs.Common.{◌≡◌, ℕ, List, length, Option, Some, None, Result, Ok, Err, ◌∙◌, refl, sym, subst}
 use Rattle.machine_state.specs.declared.kinds.Kind.TheVariants.{Write}
 use Rattle.machine_state.specs.declared.kinds.Miss.{Miss}
 use Rattle.machine_state.specs.declared.kinds.Miss.TheVariants.{Unmapped, Denied, NonCanonical, Away}
 use Rattle.machine_state.specs.Memory.{Swap, first_miss, written, or_else}
+use Rattle.machine_state.specs.World.{World}
 use Rattle.machine_state.proofs.MemoryLemmas.{or_else_none}
 use Rattle.guest_pages.specs.Table.{perms_in, blocked, first_away, answer_of}
 use Rattle.guest_pages.specs.Pages.{PagesValue, table_of, memory_of}
 use Rattle.guest_pages.specs.Changes.{IsWritten}
 use Rattle.guest_pages.proofs.Walks.{first_away-away}
 use Rattle.linux_calls.specs.declared.kinds.Halt.{Halt}
-use Rattle.linux_calls.specs.declared.kinds.Halt.TheVariants.{Refused}
+use Rattle.linux_calls.specs.declared.kinds.Halt.TheVariants.{Refused, Need, Failed}
+use Rattle.linux_calls.specs.Call.{Called}
 use Rattle.linux_calls.specs.Errnos.{efault}
 use Rattle.linux_calls.specs.Records.{put_record}
-use Rattle.linux_calls.specs.View.{View}
+use Rattle.linux_calls.specs.View.{View, with_parts}
 use Rattle.linux_calls.specs.Following.{Does, halt_of}
 use Rattle.linux_calls.specs.Waiting.{NeedsRecordIn}
 
@@ -35,6 +37,14 @@ memory_written old new swap addr bytes is = rw (is.table, is.byte swap) refl
 either : (a b : Option Miss) (miss : Miss) → or_else a b ≡ Some miss → (b ≡ Some miss → ⊥) → a ≡ Some miss
 either None b miss e never = absurd (never e)
 either (Some other) b miss e never = e
+
+-- a call that does what another does
+pub does_as : (work other : World → Called) (old new : View) (result : Result ℕ Halt) → ((swap : Swap) (base : World) → work (with_parts swap old base) ≡ other (with_parts swap old base))
+    → Does other old new result → Does work old new result
+does_as work other old new (Ok value) same does = λ swap base. same swap base ∙ does swap base
+does_as work other old new (Err (Refused errno)) same does = λ swap base. same swap base ∙ does swap base
+does_as work other old new (Err (Need slot)) same does = does
+does_as work other old new (Err (Failed call)) same does = does
 
 module _ (v : View) (addr : ℕ) (bytes : List ℕ) where
   pub record_put : (pages : PagesValue) → blocked (table_of v.pages) Write addr (length bytes) ≡ None → IsWritten v.pages pages addr bytes

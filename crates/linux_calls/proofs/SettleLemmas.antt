@@ -12,7 +12,7 @@ use Rattle.linux_calls.specs.Call.{Called, Gives, answered, gives, negative}
 use Rattle.linux_calls.specs.Rest.{calls_in_call, rest_of}
 use Rattle.linux_calls.specs.View.{View, KeepsPages, StandsFor, with_parts}
 use Rattle.linux_calls.specs.Outside.{Standing, Streams, AreTold, Between, standing_in, with_standing}
-use Rattle.linux_calls.specs.Following.{Comes, FollowsAt, IsValue, Settles, TakesInput, answered_view}
+use Rattle.linux_calls.specs.Following.{Comes, FollowsAt, IsValue, KeepsAside, Settles, TakesInput, answered_view}
 
 module _ (old mid : View) (s s' : Streams) where
   abbrev Came : Result ℕ Halt → Type 0
@@ -27,10 +27,11 @@ module _ (old mid : View) (s s' : Streams) where
       let came = comes swap from stands.streams_are told in
       let now = with_parts swap mid (with_standing from came.0) in
       let to : rest_of old.progress from ≡ gives value now = ap (rest_of old.progress) (sym stands.parts) ∙ came.2 in
-      let P : Called → Type 0 = λ x. (x.outcome ≡ Gives (cast_unsigned w64 given)) × StandsFor swap new s' x.world in
+      let P : Called → Type 0 = λ x. (x.outcome ≡ Gives (cast_unsigned w64 given)) × StandsFor swap new s' x.world × KeepsAside from x.world in
       subst P (sym to) (
         ap (λ (n : ℕ). Gives n) (sym is_value),
         subst (λ (v : View). StandsFor swap v s' (answered now value)) (sym is_new) (record { parts = refl; streams_are = came.1 }),
+        record { flags = refl; rip = refl; extended = refl },
       )
 
   waiting : (slot : ℕ) → Came (Err (Need slot)) → FollowsAt old mid s s' (NeedEnd slot)
@@ -40,6 +41,7 @@ module _ (old mid : View) (s s' : Streams) where
       record {
         now = with_parts swap mid (with_standing from came.0);
         stands = record { parts = refl; streams_are = came.1 };
+        aside = record { flags = refl; rip = refl; extended = refl };
         rest = came_to.0 ∙ ap (rest_of old.progress) stands.parts;
         grown = came_to.1;
       }

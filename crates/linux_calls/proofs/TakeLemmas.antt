@@ -7,6 +7,7 @@ use Rattle.host_edge.specs.Streams.{told}
 use Rattle.host_edge.specs.declared.outside.HostCall.TheVariants.{Take}
 use Rattle.guest_pages.specs.Pages.{PagesValue, table_of}
 use Rattle.guest_transfers.specs.Pieces.{asked, pieces_from}
+use Rattle.guest_pages.specs.Changes.{KeepsTable}
 use Rattle.guest_transfers.specs.Moves.{Takes as TakesTo, Stops, blocked_access}
 use Rattle.guest_transfers.specs.declared.kinds.Piece.{Piece}
 use Rattle.guest_transfers.specs.declared.kinds.Stop.{Stop}
@@ -113,3 +114,9 @@ module _ (v : View) (from : ℕ) (pages : PagesValue) (s : Streams) (left : Opti
           },
         ),
       ))
+
+-- what was taken leaves the table
+pub takes_keep : (old new : PagesValue) (pieces : List Piece) (from : ℕ) (left left' : Option (List ℕ)) (stop : Stop) → TakesTo old new pieces from left left' stop → KeepsTable old new
+takes_keep old new pieces from left left' (Whole done) takes = let took = takes.0 in took.moved.keeps
+takes_keep old new pieces from left left' (Away done slot) takes = takes.moved.keeps
+takes_keep old new pieces from left left' Failed takes = let took = takes.1 in took.moved.keeps

@@ -10,6 +10,7 @@ use Rattle.linux_calls.specs.Rest.{ProgressValue}
 use Rattle.linux_calls.specs.View.{View, view_of, SameParts, KeepsPages, with_parts}
 use Rattle.linux_calls.specs.Outside.{Streams, standing_in, with_standing}
 use Rattle.linux_calls.specs.Waiting.{NeedsIn}
+use Rattle.linux_calls.specs.Units.{KeepsSwap, WaitsIn, standing_at}
 use Rattle.linux_calls.specs.Following.{Comes, ComesTo, DoesPart, Faults, IsCaused, Kept, TakesInput, Works, failed_in}
 use Rattle.linux_calls.proofs.MoveLemmas.{extends_none, ends_none}
 
@@ -30,13 +31,15 @@ no_cause work old new (Err (Refused errno)) f does = refl
 no_cause work old new (Err (Need slot)) f does = refl
 no_cause work old new (Err (Failed call)) f does = absurd does
 
-pub works_of_part : (work : Whole → Called) (old new : World) (s : Streams) (f : Faults) (result : Result ℕ Halt) → Kept old new
-    → DoesPart work (view_of old) (view_of new) result → NeedsIn (view_of new) result → Works work old new s s f f result
-works_of_part work old new s f result kept does needs = record {
+pub works_of_part : (at : ProgressValue) (work : Whole → Called) (old new : World) (s : Streams) (f : Faults) (result : Result ℕ Halt) → Kept old new
+    → DoesPart work (view_of old) (view_of new) result → NeedsIn (view_of new) result → WaitsIn (standing_at (view_of old) at) (view_of new) result
+    → Works at work old new s s f f result
+works_of_part at work old new s f result kept does needs waits = record {
   kept = kept;
   comes = comes_of_part work (TakesInput (view_of old) → IsSome s.left) (view_of old) (view_of new) s result does;
   tells = record { left = refl; out = refl; err = refl };
   needs = needs;
+  waits = waits;
   cause = no_cause work (view_of old) (view_of new) result f does;
 }
 
@@ -54,25 +57,26 @@ comes_as work other Premise old new s s' result same comes = λ swap base told p
     by_result : (to also : Called) (from now : Whole) (result : Result ℕ Halt) → to ≡ also → ComesTo to from now new.progress result → ComesTo also from now new.progress result
     by_result to also from now result e h = subst (λ (x : Called). ComesTo x from now new.progress result) e h
 
-pub works_as : (work other : Whole → Called) (old new : World) (s s' : Streams) (f f' : Faults) (result : Result ℕ Halt)
-    → ((swap : Swap) (base : Whole) → work (with_parts swap (view_of old) base) ≡ other (with_parts swap (view_of old) base)) → Works other old new s s' f f' result → Works work old new s s' f f' result
-works_as work other old new s s' f f' result same works = record {
+pub works_as : (at : ProgressValue) (work other : Whole → Called) (old new : World) (s s' : Streams) (f f' : Faults) (result : Result ℕ Halt)
+    → ((swap : Swap) (base : Whole) → work (with_parts swap (view_of old) base) ≡ other (with_parts swap (view_of old) base)) → Works at other old new s s' f f' result → Works at work old new s s' f f' result
+works_as at work other old new s s' f f' result same works = record {
   kept = works.kept;
   comes = comes_as work other (TakesInput (view_of old) → IsSome s.left) (view_of old) (view_of new) s s' result same works.comes;
   tells = works.tells;
   needs = works.needs;
+  waits = works.waits;
   cause = works.cause;
 }
 
-pub works_same : {work other : Whole → Called} {old new : World} {s s' : Streams} {f f' : Faults} {result : Result ℕ Halt}
-    → Works other old new s s' f f' result → ((swap : Swap) (base : Whole) → work (with_parts swap (view_of old) base) ≡ other (with_parts swap (view_of old) base))
-    → Works work old new s s' f f' result
-works_same {work} {other} {old} {new} {s} {s'} {f} {f'} {result} works same = works_as work other old new s s' f f' result same works
+pub works_same : {at : ProgressValue} {work other : Whole → Called} {old new : World} {s s' : Streams} {f f' : Faults} {result : Result ℕ Halt}
+    → Works at other old new s s' f f' result → ((swap : Swap) (base : Whole) → work (with_parts swap (view_of old) base) ≡ other (with_parts swap (view_of old) base))
+    → Works at work old new s s' f f' result
+works_same {at} {work} {other} {old} {new} {s} {s'} {f} {f'} {result} works same = works_as at work other old new s s' f f' result same works
 
 -- a piece from parts that differ in their progress alone
-pub works_from : {work : Whole → Called} {old mid new : World} {s s' : Streams} {f f' : Faults} {result : Result ℕ Halt} (progress : ProgressValue)
-    → Works work mid new s s' f f' result → SameParts old mid → view_of mid ≡ record (view_of old) { progress = progress } → Works work old new s s' f f' result
-works_from {work} {old} {mid} {new} {s} {s'} {f} {f'} {result} progress works parts view =
+pub works_from : {at : ProgressValue} {work : Whole → Called} {old mid new : World} {s s' : Streams} {f f' : Faults} {result : Result ℕ Halt} (progress : ProgressValue)
+    → Works at work mid new s s' f f' result → SameParts old mid → view_of mid ≡ record (view_of old) { progress = progress } → Works at work old new s s' f f' result
+works_from {at} {work} {old} {mid} {new} {s} {s'} {f} {f'} {result} progress works parts view =
     let now : View = record (view_of old) { progress = progress } in
     let pages : KeepsPages now (view_of new) = subst (λ (v : View). KeepsPages v (view_of new)) view works.kept.pages in
     let same = works.kept.parts in
@@ -90,13 +94,33 @@ works_from {work} {old} {mid} {new} {s} {s'} {f} {f'} {result} progress works pa
           steps = same.steps ∙ parts.steps;
         };
         pages = record { fit = pages.fit; size = pages.size; resident = pages.resident };
+        swap = subst (λ (v : View). KeepsSwap v.pages (view_of new).pages) view works.kept.swap;
       };
       comes = subst (λ (v : View). Comes work (TakesInput v → IsSome s.left) v (view_of new) s s' result) view works.comes;
       tells = works.tells;
       needs = works.needs;
+      waits = subst (λ (v : View). WaitsIn (standing_at v at) (view_of new) result) view works.waits;
       cause = works.cause;
     }
 
-pub works_part : {work : Whole → Called} {old new : World} {s : Streams} {f : Faults} {result : Result ℕ Halt} → Kept old new
-    → DoesPart work (view_of old) (view_of new) result → NeedsIn (view_of new) result → Works work old new s s f f result
-works_part {work} {old} {new} {s} {f} {result} kept does needs = works_of_part work old new s f result kept does needs
+pub works_part : {at : ProgressValue} {work : Whole → Called} {old new : World} {s : Streams} {f : Faults} {result : Result ℕ Halt} → Kept old new
+    → DoesPart work (view_of old) (view_of new) result → NeedsIn (view_of new) result → WaitsIn (standing_at (view_of old) at) (view_of new) result
+    → Works at work old new s s f f result
+works_part {at} {work} {old} {new} {s} {f} {result} kept does needs waits = works_of_part at work old new s f result kept does needs waits
+
+-- the same piece of a call that stands elsewhere
+pub works_at : {at also : ProgressValue} {work : Whole → Called} {old new : World} {s s' : Streams} {f f' : Faults} {result : Result ℕ Halt} → Works at work old new s s' f f' result
+    → (WaitsIn (standing_at (view_of old) at) (view_of new) result → WaitsIn (standing_at (view_of old) also) (view_of new) result) → Works also work old new s s' f f' result
+works_at {at} {also} {work} {old} {new} {s} {s'} {f} {f'} {result} works goes = record {
+  kept = works.kept;
+  comes = works.comes;
+  tells = works.tells;
+  needs = works.needs;
+  waits = goes works.waits;
+  cause = works.cause;
+}
+
+pub works_standing : {at also : ProgressValue} {work : Whole → Called} {old new : World} {s s' : Streams} {f f' : Faults} {result : Result ℕ Halt} → Works at work old new s s' f f' result
+    → at ≡ also → Works also work old new s s' f f' result
+works_standing {at} {also} {work} {old} {new} {s} {s'} {f} {f'} {result} works same =
+    subst (λ (p : ProgressValue). Works p work old new s s' f f' result) same works

@@ -19,6 +19,7 @@ use Rattle.linux_calls.specs.Mapping.{some_in, is_hole, is_file_page, discarded,
 use Rattle.linux_calls.specs.View.{View, with_parts}
 use Rattle.linux_calls.specs.Following.{AreZeroed, DoesAtOnce}
 use Rattle.linux_calls.proofs.RangeLemmas.{scan, one_some}
+use Rattle.linux_calls.proofs.SwapLemmas.{swap_same, swap_then, swap_mapped}
 
 -- no page passes the test
 pub some_none : (test : ℕ → Bool) (from count : ℕ) → some_in test from count ≡ false → NoneIn test from (from + count)
@@ -69,6 +70,7 @@ zeroed_more from page old mid new mapped le are is m resident = record {
       ∙ cleared_more from page (addr / page_size) (byte_of old swap addr) le;
   count = m.count ∙ (rw (is, add-zero) refl) ∙ are.count;
   resident = λ whole all. resident (are.size.frames ∙ whole ∙ sym are.size.pages) (are.resident whole all);
+  swap = swap_then old mid new are.swap (swap_mapped mid new page mapped.perms m);
 }
 
 pub zeroed_step : (from page : ℕ) (old mid new : PagesValue) → from ≤ page → AreZeroed from page old mid → IsSome (perms_in (table_of old) page)
@@ -88,6 +90,7 @@ zeroed_none from pages = record {
   byte = λ swap addr. outside from (addr / page_size) (byte_of pages swap addr);
   count = refl;
   resident = λ whole all. all;
+  swap = swap_same pages;
 }
   where
     outside : (from at byte : ℕ) → byte ≡ cond (is_in from from at) 0 byte

@@ -31,13 +31,15 @@ use Rattle.linux_calls.specs.Transfers.{left_at}
 use Rattle.linux_calls.specs.Rest.{ProgressValue, rest_of, transfer_of, calls_in_call}
 use Rattle.linux_calls.specs.Table.{call_numbered, ends_guest}
 use Rattle.linux_calls.specs.Waiting.{NeedsIn, is_start}
+use Rattle.linux_calls.specs.Units.{KeepsSwap, WaitsIn, standing_at}
 use Rattle.linux_calls.specs.View.{View, view_of, SameParts, KeepsPages, StandsFor, with_parts}
 use Rattle.linux_calls.specs.Outside.{Standing, Streams, AreTold, Grown, Between, standing_in, with_standing}
 
--- what a piece of a call leaves: the same references, and pages that fit
+-- what a piece of a call leaves: the same references, and pages that fit and still stand with a swap
 pub record Kept (old new : World) : Type 0 where
   pub parts : SameParts old new
   pub pages : KeepsPages (view_of old) (view_of new)
+  pub swap : KeepsSwap (view_of old).pages (view_of new).pages
 
 -- ---- calls that touch no stream
 -- such a call comes to this: a value or an error, as the written one and with the parts that it leaves, or it waits, and then
@@ -78,6 +80,7 @@ pub record AreZeroed (from to : ℕ) (old new : PagesValue) : Type 0 where
   pub byte : (swap : Swap) (addr : ℕ) → byte_of new swap addr ≡ cleared from to (byte_of old swap) addr
   pub count : mapped_count new ≡ mapped_count old
   pub resident : old.frames ≡ length old.slots → AllResident old → AllResident new
+  pub swap : KeepsSwap old new
 
 -- ---- calls that may touch streams
 -- a call from one world on comes to another, where this stands on the streams: it is answered, or what is left of it there is what
@@ -101,10 +104,17 @@ abbrev pub TakesInput : View → Type 0
 TakesInput v = transfer_of v.gprs v.files 0 ≡ Some Takes
 
 -- ---- the whole call
+-- what no part of a call holds stays
+pub record KeepsAside (from now : Whole) : Type 0 where
+  pub flags : now.state.flags ≡ from.state.flags
+  pub rip : now.state.rip ≡ from.state.rip
+  pub extended : now.state.extended ≡ from.state.extended
+
 -- it has come to a world for which the parts stand now, and what is left of it there is this
 pub record Waits (Stands : Whole → Type 0) (to : Called) (from : Whole) (progress : ProgressValue) : Type 0 where
   pub now : Whole
   pub stands : Stands now
+  pub aside : KeepsAside from now
   pub rest : rest_of progress now ≡ to
   pub grown : Grown (standing_in from) (standing_in now)
 
@@ -118,8 +128,9 @@ pub record Fails (Told : Standing → Type 0) (to : Called) (from : Whole) (call
 -- a call, or the rest of one, that stops with this answer: it answers what the written one does, and the parts stand for the world
 -- that it leaves, or it waits for a page, or a call on the outside failed in it
 abbrev pub Follows : (Whole → Type 0) → (Standing → Type 0) → Called → Whole → ProgressValue → CallEnd → Type 0
-Follows Stands Told to from progress (Value value) = (to.outcome ≡ Gives (cast_unsigned w64 value)) × Stands to.world
-Follows Stands Told to from progress (Exit code) = (to.outcome ≡ Exits code) × Stands to.world
+Follows Stands Told to from progress (Value value) =
+    (to.outcome ≡ Gives (cast_unsigned w64 value)) × Stands to.world × KeepsAside from to.world
+Follows Stands Told to from progress (Exit code) = (to.outcome ≡ Exits code) × Stands to.world × KeepsAside from to.world
 Follows Stands Told to from progress (NeedEnd slot) = Waits Stands to from progress
 Follows Stands Told to from progress (Host call) = Fails Told to from call
 
@@ -190,12 +201,14 @@ IsLowStop (StopWhole done) at = at + done < 2 ^ 63
 IsLowStop (StopAway done slot) at = at + done < 2 ^ 63
 IsLowStop StopFailed at = ⊥
 
--- ---- all of a piece of a call
-pub record Works (work : Whole → Called) (old new : World) (s s' : Streams) (f f' : Faults) (result : Result ℕ Halt) : Type 0 where
+-- ---- all of a piece of a call, which stands at this
+pub record Works (at : ProgressValue) (work : Whole → Called) (old new : World) (s s' : Streams) (f f' : Faults) (result : Result ℕ Halt)
+    : Type 0 where
   pub kept : Kept old new
   pub comes : Comes work (TakesInput (view_of old) → IsSome s.left) (view_of old) (view_of new) s s' result
   pub tells : StillTell s s'
   pub needs : NeedsIn (view_of new) result
+  pub waits : WaitsIn (standing_at (view_of old) at) (view_of new) result
   pub cause : IsCaused (failed_in result) f f'
 
 -- ---- how a piece of a call becomes its end

@@ -10,4 +10,5 @@ pub mod Rest
 pub mod View
 pub mod Outside
 pub mod Waiting
+pub mod Units
 pub mod Following

@@ -156,7 +156,8 @@ abbrev pub NeedsBy : Stage → View → (slot : ℕ) → Type 0
 NeedsBy Start v slot = NeedsAtStart (call_numbered (rax v.gprs)) v slot
 NeedsBy Listing v slot = ListWaits v.pages (rsi v.gprs) (rdx v.gprs) v.progress.pieces v.progress.pieces slot
 NeedsBy (Moving done) v slot = NeedsPart (transfer_of v.gprs v.files done) v done slot
-NeedsBy (Copying at done) v slot = away_access (table_of v.pages) (part_at Write (single at (mapped_bytes v.gprs)) done) ≡ Some (Away slot)
+NeedsBy (Copying at done) v slot =
+    (done < mapped_bytes v.gprs) × (away_access (table_of v.pages) (part_at Write (single at (mapped_bytes v.gprs)) done) ≡ Some (Away slot))
 
 pub record IsNeeded (v : View) (slot : ℕ) : Type 0 where
   pub needs : NeedsBy v.progress.stage v slot

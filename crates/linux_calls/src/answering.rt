@@ -1,6 +1,6 @@
 //! The answer of a call.
 ghost use Rattle.std.specs.Prelude.{◌≡◌, ◌<◌, ◌^◌, false, Some, None};
-ghost use Rattle.linux_calls.specs.Call.{rax, rdx, rsi};
+ghost use Rattle.linux_calls.specs.Call.{rax, rdi, rdx, rsi};
 ghost use Rattle.linux_calls.specs.Outside.{streams};
 ghost use Rattle.linux_calls.specs.Rest.{rest_of, transfer_of as transfer_of_spec};
 ghost use Rattle.linux_calls.specs.Transfers.{begun, named_piece};
@@ -9,6 +9,7 @@ ghost use Rattle.linux_calls.specs.View.{view_of, FitParts, KeepsPages, SamePart
 ghost use Rattle.linux_calls.specs.Following.{DoesAtOnce, DoesPart, FollowsAt, IsCaused, IsValue, Kept, Settles, StillTell, Works};
 ghost use Rattle.linux_calls.specs.Following.{answered_view, exit_of as exit_of_spec, failed_by, faults};
 ghost use Rattle.linux_calls.specs.Waiting.{CanGoOn, IsQuick, IsSlow, NeedsAt, NeedsIn};
+ghost use Rattle.linux_calls.specs.Units.{KeepsSwap, WaitsAt, WaitsIn, moving_from};
 
 use crate::copying::{copy_on, mmap};
 use crate::errnos::{ENOSYS, negative};
@@ -75,6 +76,7 @@ fn quick(w: &mut World, call: Call) -> Result<u64, Halt>
     ensures kept { Kept w.old w.new }
     ensures does { DoesPart (act call) (view_of w.old) (view_of w.new) result }
     ensures needs { NeedsIn (view_of w.new) result }
+    ensures waits { WaitsIn (view_of w.old) (view_of w.new) result }
 {
     match at_once(w, call) {
         Ok(value) => Ok(value),
@@ -91,6 +93,7 @@ fn slow(w: &mut World, call: Call) -> Result<u64, Halt>
     ensures kept { Kept w.old w.new }
     ensures does { DoesPart (act call) (view_of w.old) (view_of w.new) result }
     ensures needs { NeedsIn (view_of w.new) result }
+    ensures waits { WaitsIn (view_of w.old) (view_of w.new) result }
 {
     match call {
         Call::Open => open(w),
@@ -130,7 +133,7 @@ fn getrandom<S: Source, O: Sink, E: Sink>(
 ) -> Result<u64, Halt>
     requires is { call_numbered_spec (rax w.old.gprs.now) ≡ Some Call.Getrandom }
     requires fit { FitParts (view_of w.old) }
-    ensures { Works (act Call.Getrandom) w.old w.new
+    ensures { Works (moving_from (named_piece (rdi w.old.gprs.now) (rsi w.old.gprs.now)) 0) (act Call.Getrandom) w.old w.new
         (streams (S.left input.old) (O.taken out.old) (E.taken err.old)) (streams (S.left input.new) (O.taken out.new) (E.taken err.new))
         (faults (S.faults input.old) (O.faults out.old) (E.faults err.old))
         (faults (S.faults input.new) (O.faults out.new) (E.faults err.new)) result }
@@ -155,7 +158,8 @@ fn moving<S: Source, O: Sink, E: Sink>(
 ) -> Result<u64, Halt>
     requires is { transfer_of_spec w.old.gprs.now w.old.files.now 0 ≡ transfer }
     requires fit { FitParts (view_of w.old) }
-    ensures { Works (begun transfer (named_piece (rsi w.old.gprs.now) (rdx w.old.gprs.now))) w.old w.new
+    ensures { Works (moving_from (named_piece (rsi w.old.gprs.now) (rdx w.old.gprs.now)) 0)
+        (begun transfer (named_piece (rsi w.old.gprs.now) (rdx w.old.gprs.now))) w.old w.new
         (streams (S.left input.old) (O.taken out.old) (E.taken err.old)) (streams (S.left input.new) (O.taken out.new) (E.taken err.new))
         (faults (S.faults input.old) (O.faults out.old) (E.faults err.old))
         (faults (S.faults input.new) (O.faults out.new) (E.faults err.new)) result }
@@ -179,7 +183,7 @@ fn perform<S: Source, O: Sink, E: Sink>(
     requires begins { w.old.progress.now.stage ≡ Stage.Start }
     requires stays { ends_guest call ≡ false }
     requires fit { FitParts (view_of w.old) }
-    ensures { Works (act call) w.old w.new
+    ensures { Works w.old.progress.now (act call) w.old w.new
         (streams (S.left input.old) (O.taken out.old) (E.taken err.old)) (streams (S.left input.new) (O.taken out.new) (E.taken err.new))
         (faults (S.faults input.old) (O.faults out.old) (E.faults err.old))
         (faults (S.faults input.new) (O.faults out.new) (E.faults err.new)) result }
@@ -223,7 +227,7 @@ fn go_on<S: Source, O: Sink, E: Sink>(
     requires stays { exit_of_spec (view_of w.old) ≡ None }
     requires can { CanGoOn (view_of w.old) }
     requires fit { FitParts (view_of w.old) }
-    ensures { Works (rest_of w.old.progress.now) w.old w.new
+    ensures { Works w.old.progress.now (rest_of w.old.progress.now) w.old w.new
         (streams (S.left input.old) (O.taken out.old) (E.taken err.old)) (streams (S.left input.new) (O.taken out.new) (E.taken err.new))
         (faults (S.faults input.old) (O.faults out.old) (E.faults err.old))
         (faults (S.faults input.new) (O.faults out.new) (E.faults err.new)) result }
@@ -340,6 +344,8 @@ pub fn answer<S: Source, O: Sink, E: Sink>(
     ensures tells { StillTell (streams (S.left input.old) (O.taken out.old) (E.taken err.old))
         (streams (S.left input.new) (O.taken out.new) (E.taken err.new)) }
     ensures needs { NeedsAt (view_of w.new) result }
+    ensures waits { WaitsAt (view_of w.old) (view_of w.new) result }
+    ensures swap { KeepsSwap (view_of w.old).pages (view_of w.new).pages }
     ensures cause { IsCaused (failed_by result) (faults (S.faults input.old) (O.faults out.old) (E.faults err.old))
         (faults (S.faults input.new) (O.faults out.new) (E.faults err.new)) }
 {

@@ -1,5 +1,5 @@
 //! The call mmap.
-ghost use Rattle.std.specs.Prelude.{◌≡◌, ◌≤◌, ◌<◌, ◌+◌, ◌*◌, ◌/◌, ◌%◌, ◌^◌, ◌&&◌, ◌==◌, true, false, OnOk, IfSome};
+ghost use Rattle.std.specs.Prelude.{◌≡◌, ◌≤◌, ◌<◌, ◌+◌, ◌*◌, ◌/◌, ◌%◌, ◌^◌, ◌&&◌, ◌==◌, true, false, OnOk, IfSome, Some};
 ghost use Rattle.std.specs.Result.{result_err};
 ghost use Rattle.machine_state.specs.Memory.{page_size};
 ghost use Rattle.machine_state.specs.World.{place_at};
@@ -7,13 +7,16 @@ ghost use Rattle.guest_files.specs.Open.{has_flag};
 ghost use Rattle.guest_pages.specs.Pages.{table_of};
 ghost use Rattle.guest_transfers.specs.Moves.{IsMappedRange, ReadsFile};
 ghost use Rattle.region_map.specs.Calls.{highest_end, lowest_page, pages_up as up_of};
-ghost use Rattle.linux_calls.specs.Call.{is_page, r10, r9, rdi, rsi};
+ghost use Rattle.linux_calls.specs.Call.{is_page, r10, r9, rax, rdi, rsi};
 ghost use Rattle.linux_calls.specs.Mapping.{copy_rest, file_refusal, filled_from, free_page as free_page_spec};
 ghost use Rattle.linux_calls.specs.Mapping.{is_anonymous as is_anonymous_spec, is_fixed as is_fixed_spec, is_free, mapped_at};
 ghost use Rattle.linux_calls.specs.Mapping.{mapped_descriptor, mmap_call, mmap_page as mmap_page_spec, mmap_refusal, place_refusal};
 ghost use Rattle.linux_calls.specs.View.{view_of, FitParts};
 ghost use Rattle.linux_calls.specs.Following.{DoesPart, Kept};
 ghost use Rattle.linux_calls.specs.Waiting.{CanCopy, NeedsIn, mapped_bytes};
+ghost use Rattle.linux_calls.specs.Table.{call_numbered};
+ghost use Rattle.linux_calls.specs.Units.{WaitsIn, copying_from, standing_at};
+ghost use Rattle.linux_calls.specs.declared.kinds.Call.{Call};
 
 use crate::errnos::{ENODEV, ENOMEM};
 use crate::kinds::{Halt, Stage};
@@ -52,6 +55,7 @@ pub(crate) fn copy_on(w: &mut World, at: u64, from: u64) -> Result<u64, Halt>
     ensures kept { Kept w.old w.new }
     ensures does { DoesPart (copy_rest at from) (view_of w.old) (view_of w.new) result }
     ensures needs { NeedsIn (view_of w.new) result }
+    ensures waits { WaitsIn (standing_at (view_of w.old) (copying_from at from w.old.progress.now.pieces)) (view_of w.new) result }
 {
     let count = pages_up(w.rsi()) * PAGE_SIZE;
     let fd = low(w.gprs.get(R8));
@@ -141,6 +145,7 @@ fn fill(w: &mut World, at: u64) -> Result<u64, Halt>
     ensures kept { Kept w.old w.new }
     ensures does { DoesPart (filled_from at) (view_of w.old) (view_of w.new) result }
     ensures needs { NeedsIn (view_of w.new) result }
+    ensures waits { WaitsIn (standing_at (view_of w.old) (copying_from at 0 w.old.progress.now.pieces)) (view_of w.new) result }
 {
     if is_anonymous(w.gprs.get(R10)) {
         return Ok(at);
@@ -158,6 +163,7 @@ fn past_end(w: &mut World, at: u64) -> Result<u64, Halt>
     ensures kept { Kept w.old w.new }
     ensures does { DoesPart (copy_rest at 0) (view_of w.old) (view_of w.new) result }
     ensures needs { NeedsIn (view_of w.new) result }
+    ensures waits { WaitsIn (standing_at (view_of w.old) (copying_from at 0 w.old.progress.now.pieces)) (view_of w.new) result }
 {
     let _ = w.files.cap();
     let _ = w.files.entries();
@@ -166,6 +172,8 @@ fn past_end(w: &mut World, at: u64) -> Result<u64, Halt>
 
 // Maps the pages that the registers ask for, from a page on.
 fn map_at(w: &mut World, page: u64) -> Result<u64, Halt>
+    requires is { call_numbered (rax w.old.gprs.now) ≡ Some Call.Mmap }
+    requires begins { w.old.progress.now.stage ≡ Stage.Start }
     requires some { 0 < rsi w.old.gprs.now }
     requires low { lowest_page ≤ page }
     requires high { page + up_of (rsi w.old.gprs.now) ≤ highest_end }
@@ -174,6 +182,7 @@ fn map_at(w: &mut World, page: u64) -> Result<u64, Halt>
     ensures kept { Kept w.old w.new }
     ensures does { DoesPart (mapped_at page) (view_of w.old) (view_of w.new) result }
     ensures needs { NeedsIn (view_of w.new) result }
+    ensures waits { WaitsIn (view_of w.old) (view_of w.new) result }
 {
     let at = page * PAGE_SIZE;
     let count = pages_up(w.rsi());
@@ -233,10 +242,13 @@ fn mmap_page(w: &World) -> Option<u64>
 /// The call mmap.
 #[tactic(auto, unfolding(crate::specs::Mapping::mmap_call))]
 pub(crate) fn mmap(w: &mut World) -> Result<u64, Halt>
-    requires { FitParts (view_of w.old) }
+    requires is { call_numbered (rax w.old.gprs.now) ≡ Some Call.Mmap }
+    requires begins { w.old.progress.now.stage ≡ Stage.Start }
+    requires fit { FitParts (view_of w.old) }
     ensures kept { Kept w.old w.new }
     ensures does { DoesPart mmap_call (view_of w.old) (view_of w.new) result }
     ensures needs { NeedsIn (view_of w.new) result }
+    ensures waits { WaitsIn (view_of w.old) (view_of w.new) result }
 {
     match check_mmap(w) {
         Ok(()) => {}

@@ -7,6 +7,7 @@ mod errnos;
 mod fields;
 mod files;
 mod kinds;
+mod laws;
 mod lists;
 mod mapping;
 mod paths;
@@ -18,6 +19,7 @@ mod world;
 pub use answering::answer;
 pub use host_edge::HostCall;
 pub use kinds::{CallEnd, Progress};
+pub use laws::growth_law;
 pub use world::World;
 
 #[cfg(test)]

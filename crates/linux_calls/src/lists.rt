@@ -1,5 +1,5 @@
 //! The calls readv and writev.
-ghost use Rattle.std.specs.Prelude.{◌≡◌, ◌≤◌, ◌<◌, ◌^◌, length, Some};
+ghost use Rattle.std.specs.Prelude.{◌≡◌, ◌≤◌, ◌<◌, ◌^◌, length, [], Some, Err};
 ghost use Rattle.guest_transfers.specs.Buffers.{most_buffers};
 ghost use Rattle.guest_transfers.specs.Moves.{record_place};
 ghost use Rattle.linux_calls.specs.Call.{rsi, rdx};
@@ -9,6 +9,10 @@ ghost use Rattle.linux_calls.specs.Transfers.{joined_transfer, list_rest, listed
 ghost use Rattle.linux_calls.specs.View.{view_of, FitParts};
 ghost use Rattle.linux_calls.specs.Following.{Works, faults};
 ghost use Rattle.linux_calls.specs.Waiting.{IsListed};
+ghost use Rattle.linux_calls.specs.Units.{listing_from, moving_from};
+ghost use Rattle.guest_transfers.specs.Pieces.{asked, most_asked};
+ghost use Rattle.guest_files.specs.declared.errno.Errno.{Errno};
+ghost use Rattle.linux_calls.specs.declared.kinds.Halt.{Halt};
 ghost use Rattle.linux_calls.specs.declared.kinds.Transfer.{Transfer};
 
 use crate::errnos::EFAULT;
@@ -30,10 +34,11 @@ fn join<S: Source, O: Sink, E: Sink>(
     requires is { transfer_of w.old.gprs.now w.old.files.now 0 ≡ Some transfer }
     requires listed { IsListed transfer }
     requires fit { FitParts (view_of w.old) }
-    ensures { Works (joined_transfer transfer w.old.progress.now.pieces) w.old w.new
+    ensures works { Works (moving_from w.old.progress.now.pieces 0) (joined_transfer transfer w.old.progress.now.pieces) w.old w.new
         (streams (S.left input.old) (O.taken out.old) (E.taken err.old)) (streams (S.left input.new) (O.taken out.new) (E.taken err.new))
         (faults (S.faults input.old) (O.faults out.old) (E.faults err.old))
         (faults (S.faults input.new) (O.faults out.new) (E.faults err.new)) result }
+    ensures refused { most_asked < asked w.old.progress.now.pieces → result ≡ Err (Halt.Refused Errno.EINVAL) }
 {
     if total_len(w.progress.pieces()) > MOST_ASKED {
         return Err(Halt::Refused(Errno::EINVAL));
@@ -55,7 +60,7 @@ pub(crate) fn list_on<S: Source, O: Sink, E: Sink>(
     requires within { length w.old.progress.now.pieces ≤ rdx w.old.gprs.now }
     requires place { record_place (rsi w.old.gprs.now) (length w.old.progress.now.pieces) < 2 ^ 64 }
     requires fit { FitParts (view_of w.old) }
-    ensures { Works (list_rest transfer w.old.progress.now.pieces) w.old w.new
+    ensures { Works (listing_from w.old.progress.now.pieces) (list_rest transfer w.old.progress.now.pieces) w.old w.new
         (streams (S.left input.old) (O.taken out.old) (E.taken err.old)) (streams (S.left input.new) (O.taken out.new) (E.taken err.new))
         (faults (S.faults input.old) (O.faults out.old) (E.faults err.old))
         (faults (S.faults input.new) (O.faults out.new) (E.faults err.new)) result }
@@ -83,7 +88,7 @@ pub(crate) fn list_call<S: Source, O: Sink, E: Sink>(
     requires is { transfer_of w.old.gprs.now w.old.files.now 0 ≡ transfer }
     requires listed { (t : Transfer) → transfer ≡ Some t → IsListed t }
     requires fit { FitParts (view_of w.old) }
-    ensures { Works (listed transfer) w.old w.new
+    ensures { Works (listing_from []) (listed transfer) w.old w.new
         (streams (S.left input.old) (O.taken out.old) (E.taken err.old)) (streams (S.left input.new) (O.taken out.new) (E.taken err.new))
         (faults (S.faults input.old) (O.faults out.old) (E.faults err.old))
         (faults (S.faults input.new) (O.faults out.new) (E.faults err.new)) result }

@@ -104,6 +104,7 @@ pub(crate) fn munmap(w: &mut World) -> Result<u64, Errno>
 }
 
 /// The call brk.
+#[tactic(auto, using(crate::proofs::SwapLemmas::swap_resized))]
 pub(crate) fn brk(w: &mut World) -> Result<u64, Errno>
     requires { FitParts (view_of w.old) }
     ensures kept { Kept w.old w.new }

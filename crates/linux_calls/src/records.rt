@@ -3,7 +3,7 @@ ghost use Rattle.std.specs.Prelude.{◌≡◌, length};
 ghost use Rattle.machine_state.specs.Memory.{number_bytes};
 ghost use Rattle.linux_calls.specs.Call.{rsi, rdi};
 ghost use Rattle.linux_calls.specs.Records.{put_record as put_record_call, fstat_call, stat_bytes, uname_call, uname_bytes};
-ghost use Rattle.linux_calls.specs.Records.{arch_prctl_call, clock_gettime_call, time_bytes};
+ghost use Rattle.linux_calls.specs.Records.{arch_prctl_call, clock_gettime_call, is_clock as is_clock_spec, time_bytes};
 ghost use Rattle.linux_calls.specs.View.{view_of, FitParts};
 ghost use Rattle.linux_calls.specs.Waiting.{NeedsRecordIn};
 ghost use Rattle.linux_calls.specs.Following.{Does, Kept, halt_of as halt_of_spec};
@@ -136,6 +136,13 @@ fn time_record(steps: u64) -> Fields
     fields
 }
 
+// Whether a number is a clock's.
+fn is_clock(id: u32) -> bool
+    ensures { result ≡ is_clock_spec id }
+{
+    matches!(id, 0 | 1 | 4 | 5 | 6 | 7)
+}
+
 /// The call clock_gettime.
 #[tactic(auto, unfolding(crate::specs::Records::clock_gettime_call))]
 pub(crate) fn clock_gettime(w: &mut World) -> Result<u64, Halt>
@@ -144,14 +151,12 @@ pub(crate) fn clock_gettime(w: &mut World) -> Result<u64, Halt>
     ensures does { Does clock_gettime_call (view_of w.old) (view_of w.new) result }
     ensures needs { NeedsRecordIn (view_of w.new) (rsi w.new.gprs.now) 16 result }
 {
-    let addr = w.rsi();
-    match low(w.rdi()) {
-        0 | 1 | 4 | 5 | 6 | 7 => {
-            let fields = time_record(w.steps);
-            put_record(w, addr, fields.bytes())
-        }
-        _ => Err(Halt::Refused(Errno::EINVAL)),
+    if !is_clock(low(w.rdi())) {
+        return Err(Halt::Refused(Errno::EINVAL));
     }
+    let addr = w.rsi();
+    let fields = time_record(w.steps);
+    put_record(w, addr, fields.bytes())
 }
 
 // Writes a base to an address.

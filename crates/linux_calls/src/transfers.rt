@@ -17,6 +17,7 @@ ghost use Rattle.linux_calls.specs.Transfers.{reads_rest, refusal_of, takes_rest
 ghost use Rattle.linux_calls.specs.View.{view_of, FitParts, SameParts};
 ghost use Rattle.linux_calls.specs.Following.{Comes, DoesPart, Ends, EndsAt, IsCaused, IsLowStop, Kept, Works, failed_in, faults};
 ghost use Rattle.linux_calls.specs.Waiting.{CanMove, HasOther, IsOne, NeedsIn};
+ghost use Rattle.linux_calls.specs.Units.{WaitsIn, moving_from, standing_at};
 
 use crate::errnos::EFAULT;
 use crate::kinds::{Halt, Stage, Transfer};
@@ -60,6 +61,7 @@ fn take_on<S: Source>(w: &mut World, from: u64, input: &mut S) -> Result<u64, Ha
         (view_of w.old) (view_of w.new) (streams (S.left input.old) out err) (streams (S.left input.new) out err) result }
     ensures tells { is_some (S.left input.new) ≡ is_some (S.left input.old) }
     ensures needs { NeedsIn (view_of w.new) result }
+    ensures waits { WaitsIn (standing_at (view_of w.old) (moving_from w.old.progress.now.pieces from)) (view_of w.new) result }
     ensures cause { (o e : ℕ) → IsCaused (failed_in result) (faults (S.faults input.old) o e) (faults (S.faults input.new) o e) }
 {
     let stop = take_pieces(w.pages, w.progress.pieces(), from, input);
@@ -76,6 +78,7 @@ fn out_on<O: Sink>(w: &mut World, from: u64, out: &mut O) -> Result<u64, Halt>
         (view_of w.old) (view_of w.new) (streams left (O.taken out.old) err) (streams left (O.taken out.new) err) result }
     ensures tells { is_some (O.taken out.new) ≡ is_some (O.taken out.old) }
     ensures needs { NeedsIn (view_of w.new) result }
+    ensures waits { WaitsIn (standing_at (view_of w.old) (moving_from w.old.progress.now.pieces from)) (view_of w.new) result }
     ensures cause { (t e : ℕ) → IsCaused (failed_in result) (faults t (O.faults out.old) e) (faults t (O.faults out.new) e) }
 {
     let stop = put_pieces(w.pages, w.progress.pieces(), from, out);
@@ -92,6 +95,7 @@ fn err_on<E: Sink>(w: &mut World, from: u64, err: &mut E) -> Result<u64, Halt>
         (view_of w.old) (view_of w.new) (streams left out (E.taken err.old)) (streams left out (E.taken err.new)) result }
     ensures tells { is_some (E.taken err.new) ≡ is_some (E.taken err.old) }
     ensures needs { NeedsIn (view_of w.new) result }
+    ensures waits { WaitsIn (standing_at (view_of w.old) (moving_from w.old.progress.now.pieces from)) (view_of w.new) result }
     ensures cause { (t o : ℕ) → IsCaused (failed_in result) (faults t o (E.faults err.old)) (faults t o (E.faults err.new)) }
 {
     let stop = put_pieces(w.pages, w.progress.pieces(), from, err);
@@ -152,6 +156,7 @@ fn read_on(w: &mut World, fd: u32, at: u64, moves: bool, from: u64) -> Result<u6
     ensures kept { Kept w.old w.new }
     ensures does { DoesPart (reads_rest fd at moves w.old.progress.now.pieces from) (view_of w.old) (view_of w.new) result }
     ensures needs { NeedsIn (view_of w.new) result }
+    ensures waits { WaitsIn (standing_at (view_of w.old) (moving_from w.old.progress.now.pieces from)) (view_of w.new) result }
 {
     known(w.files);
     let stop = read_file(w.pages, w.progress.pieces(), from, w.files, fd, at);
@@ -167,6 +172,7 @@ fn write_on(w: &mut World, fd: u32, at: u64, moves: bool, from: u64) -> Result<u
     ensures kept { Kept w.old w.new }
     ensures does { DoesPart (writes_rest fd at moves w.old.progress.now.pieces from) (view_of w.old) (view_of w.new) result }
     ensures needs { NeedsIn (view_of w.new) result }
+    ensures waits { WaitsIn (standing_at (view_of w.old) (moving_from w.old.progress.now.pieces from)) (view_of w.new) result }
 {
     known(w.files);
     let stop = write_file(w.pages, w.progress.pieces(), from, w.files, fd, at);
@@ -189,6 +195,7 @@ fn draw_on(w: &mut World, from: u64) -> Result<u64, Halt>
     ensures kept { Kept w.old w.new }
     ensures does { DoesPart (draws_rest w.old.progress.now.pieces from) (view_of w.old) (view_of w.new) result }
     ensures needs { NeedsIn (view_of w.new) result }
+    ensures waits { WaitsIn (standing_at (view_of w.old) (moving_from w.old.progress.now.pieces from)) (view_of w.new) result }
 {
     let piece = only(w.progress.pieces());
     let stop = draw_bytes(w.pages, piece, from, w.random);
@@ -207,7 +214,7 @@ pub(crate) fn move_on<S: Source, O: Sink, E: Sink>(
     requires is { transfer_of w.old.gprs.now w.old.files.now from ≡ Some transfer }
     requires can { CanMove transfer (perms_in (table_of w.old.pages.now)) w.old.files.now w.old.progress.now.pieces from }
     requires fit { FitParts (view_of w.old) }
-    ensures { Works (transfer_rest transfer w.old.progress.now.pieces from) w.old w.new
+    ensures { Works (moving_from w.old.progress.now.pieces from) (transfer_rest transfer w.old.progress.now.pieces from) w.old w.new
         (streams (S.left input.old) (O.taken out.old) (E.taken err.old)) (streams (S.left input.new) (O.taken out.new) (E.taken err.new))
         (faults (S.faults input.old) (O.faults out.old) (E.faults err.old))
         (faults (S.faults input.new) (O.faults out.new) (E.faults err.new)) result }
@@ -301,7 +308,7 @@ pub(crate) fn begin<S: Source, O: Sink, E: Sink>(
     requires one { IsOne transfer w.old.progress.now.pieces }
     requires most { asked w.old.progress.now.pieces ≤ most_asked }
     requires fit { FitParts (view_of w.old) }
-    ensures { Works (transferred transfer w.old.progress.now.pieces) w.old w.new
+    ensures { Works (moving_from w.old.progress.now.pieces 0) (transferred transfer w.old.progress.now.pieces) w.old w.new
         (streams (S.left input.old) (O.taken out.old) (E.taken err.old)) (streams (S.left input.new) (O.taken out.new) (E.taken err.new))
         (faults (S.faults input.old) (O.faults out.old) (E.faults err.old))
         (faults (S.faults input.new) (O.faults out.new) (E.faults err.new)) result }
@@ -330,7 +337,7 @@ pub(crate) fn transfer_call<S: Source, O: Sink, E: Sink>(
 ) -> Result<u64, Halt>
     requires is { transfer_of w.old.gprs.now w.old.files.now 0 ≡ transfer }
     requires fit { FitParts (view_of w.old) }
-    ensures { Works (begun transfer (named_piece piece.addr piece.len)) w.old w.new
+    ensures { Works (moving_from (named_piece piece.addr piece.len) 0) (begun transfer (named_piece piece.addr piece.len)) w.old w.new
         (streams (S.left input.old) (O.taken out.old) (E.taken err.old)) (streams (S.left input.new) (O.taken out.new) (E.taken err.new))
         (faults (S.faults input.old) (O.faults out.old) (E.faults err.old))
         (faults (S.faults input.new) (O.faults out.new) (E.faults err.new)) result }

@@ -2,6 +2,9 @@ use Rattle.linux_calls.specs.declared.kinds.Call.TheVariants.{Open, Fstat, Uname
 use Rattle.linux_calls.specs.Call.{rdi, rsi}
 use Rattle.linux_calls.specs.View.{view_of}
 use Rattle.linux_calls.proofs.CallLemmas.{part_of_does, record_needs, path_needs}
+use Rattle.std.proofs.Common.{arith}
+use Rattle.linux_calls.specs.Table.{act}
+use Rattle.linux_calls.proofs.WaitLemmas.{begins_waiting}
 use Rattle.linux_calls.proofs.answering.slow.Goals as goal
 
 pub returns-in-Fstat-clause-does : goal.returns-in-Fstat-clause-does
@@ -57,3 +60,27 @@ pub returns-in-Openat-clause-needs : goal.returns-in-Openat-clause-needs
 returns-in-Openat-clause-needs c =
     path_needs Openat (view_of c.args.w.now) (view_of c.openat.new.w) (rsi c.openat.new.w.gprs.now) c.openat.result c.requires.begins (rw c.in-Openat.is at c.requires.is) c.openat.ensures.does
     (λ slot h. h) c.openat.ensures.needs
+
+pub returns-in-Fstat-clause-waits : goal.returns-in-Fstat-clause-waits
+returns-in-Fstat-clause-waits c =
+    begins_waiting Fstat (act Fstat) (view_of c.args.w.now) (view_of c.fstat.new.w) c.fstat.result c.requires.begins (rw c.in-Fstat.is at c.requires.is) (omega arith) c.fstat.ensures.does
+
+pub returns-in-Uname-clause-waits : goal.returns-in-Uname-clause-waits
+returns-in-Uname-clause-waits c =
+    begins_waiting Uname (act Uname) (view_of c.args.w.now) (view_of c.uname.new.w) c.uname.result c.requires.begins (rw c.in-Uname.is at c.requires.is) (omega arith) c.uname.ensures.does
+
+pub returns-in-ArchPrctl-clause-waits : goal.returns-in-ArchPrctl-clause-waits
+returns-in-ArchPrctl-clause-waits c =
+    begins_waiting ArchPrctl (act ArchPrctl) (view_of c.args.w.now) (view_of c.arch_prctl.new.w) c.arch_prctl.result c.requires.begins (rw c.in-ArchPrctl.is at c.requires.is) (omega arith) c.arch_prctl.ensures.does
+
+pub returns-in-ClockGettime-clause-waits : goal.returns-in-ClockGettime-clause-waits
+returns-in-ClockGettime-clause-waits c =
+    begins_waiting ClockGettime (act ClockGettime) (view_of c.args.w.now) (view_of c.clock_gettime.new.w) c.clock_gettime.result c.requires.begins (rw c.in-ClockGettime.is at c.requires.is) (omega arith) c.clock_gettime.ensures.does
+
+pub returns-in-Open-clause-waits : goal.returns-in-Open-clause-waits
+returns-in-Open-clause-waits c =
+    begins_waiting Open (act Open) (view_of c.args.w.now) (view_of c.open.new.w) c.open.result c.requires.begins (rw c.in-Open.is at c.requires.is) (omega arith) c.open.ensures.does
+
+pub returns-in-Openat-clause-waits : goal.returns-in-Openat-clause-waits
+returns-in-Openat-clause-waits c =
+    begins_waiting Openat (act Openat) (view_of c.args.w.now) (view_of c.openat.new.w) c.openat.result c.requires.begins (rw c.in-Openat.is at c.requires.is) (omega arith) c.openat.ensures.does

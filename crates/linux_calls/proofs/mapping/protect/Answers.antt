@@ -2,7 +2,18 @@ use Rattle.std.proofs.Common.{◌/◌}
 use Rattle.machine_state.specs.Memory.{page_size}
 use Rattle.linux_calls.specs.View.{view_of}
 use Rattle.linux_calls.proofs.MappingLemmas.{protected_done, protected_refused}
+use Rattle.std.proofs.Common.{rules, ◌+◌}
+use Rattle.region_map.specs.declared.kinds.Change.TheVariants.{Protect}
+use Rattle.linux_calls.proofs.SwapLemmas.{swap_changed}
 use Rattle.linux_calls.proofs.mapping.protect.Goals as goal
+
+pub returns-in-Ok-clause-kept : goal.returns-in-Ok-clause-kept
+returns-in-Ok-clause-kept c = record {
+  parts = search rules;
+  pages = search rules;
+  swap = swap_changed (Protect c.args.perms) (c.args.start / page_size) (c.args.start / page_size + c.args.count) c.args.w.now.regions.now.regions c.protect.new.self.regions
+      c.args.w.now.pages.now c.protect.new.pages c.in-Ok.ensures.ok;
+}
 
 pub returns-in-Ok-clause-does : goal.returns-in-Ok-clause-does
 returns-in-Ok-clause-does c =

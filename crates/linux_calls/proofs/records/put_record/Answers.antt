@@ -1,6 +1,15 @@
 use Rattle.linux_calls.specs.View.{view_of}
 use Rattle.linux_calls.proofs.RecordLemmas.{answered-ok, answered-err, record_put, record_missed, record_needs}
+use Rattle.std.proofs.Common.{rules}
+use Rattle.linux_calls.proofs.SwapLemmas.{swap_written}
 use Rattle.linux_calls.proofs.records.put_record.Goals as goal
+
+pub returns-in-Ok-clause-kept : goal.returns-in-Ok-clause-kept
+returns-in-Ok-clause-kept c = record {
+  parts = search rules;
+  pages = search rules;
+  swap = swap_written c.args.w.now.pages.now c.write.new.self c.args.addr c.args.bytes.now c.in-Ok.ensures.ok;
+}
 
 pub returns-in-Ok-clause-does : goal.returns-in-Ok-clause-does
 returns-in-Ok-clause-does c =

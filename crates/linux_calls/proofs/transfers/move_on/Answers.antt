@@ -5,7 +5,7 @@ use Rattle.linux_calls.specs.Outside.{streams}
 use Rattle.linux_calls.specs.View.{view_of}
 use Rattle.linux_calls.specs.Following.{TakesInput}
 use Rattle.linux_calls.proofs.AppendLemmas.{steady}
-use Rattle.linux_calls.proofs.WorkLemmas.{comes_under}
+use Rattle.linux_calls.proofs.WorkLemmas.{comes_under, works_part}
 use Rattle.linux_calls.proofs.transfers.move_on.Goals as goal
 
 pub take_on-requires-clause-is : goal.take_on-requires-clause-is
@@ -33,6 +33,7 @@ returns-in-Takes g c = rw c.in-Takes.is (record {
       (c.take_on.ensures.comes (g.O.Sink.taken c.args.out.now) (g.E.Sink.taken c.args.err.now));
   tells = record { left = c.take_on.ensures.tells; out = refl; err = refl };
   needs = c.take_on.ensures.needs;
+  waits = c.take_on.ensures.waits;
   cause = c.take_on.ensures.cause (g.O.Sink.faults c.args.out.now) (g.E.Sink.faults c.args.err.now);
 })
 
@@ -45,6 +46,7 @@ returns-in-PutsOut g c = rw c.in-PutsOut.is (record {
       (λ told. tt) (c.out_on.ensures.comes (g.S.Source.left c.args.input.now) (g.E.Sink.taken c.args.err.now));
   tells = record { left = refl; out = c.out_on.ensures.tells; err = refl };
   needs = c.out_on.ensures.needs;
+  waits = c.out_on.ensures.waits;
   cause = c.out_on.ensures.cause (g.S.Source.faults c.args.input.now) (g.E.Sink.faults c.args.err.now);
 })
 
@@ -57,5 +59,15 @@ returns-in-PutsErr g c = rw c.in-PutsErr.is (record {
       (λ told. tt) (c.err_on.ensures.comes (g.S.Source.left c.args.input.now) (g.O.Sink.taken c.args.out.now));
   tells = record { left = refl; out = refl; err = c.err_on.ensures.tells };
   needs = c.err_on.ensures.needs;
+  waits = c.err_on.ensures.waits;
   cause = c.err_on.ensures.cause (g.S.Source.faults c.args.input.now) (g.O.Sink.faults c.args.out.now);
 })
+
+pub returns-in-Reads : goal.returns-in-Reads
+returns-in-Reads g c = rw c.in-Reads.is (works_part c.read_on.ensures.kept c.read_on.ensures.does c.read_on.ensures.needs c.read_on.ensures.waits)
+
+pub returns-in-Writes : goal.returns-in-Writes
+returns-in-Writes g c = rw c.in-Writes.is (works_part c.write_on.ensures.kept c.write_on.ensures.does c.write_on.ensures.needs c.write_on.ensures.waits)
+
+pub returns-in-Draws : goal.returns-in-Draws
+returns-in-Draws g c = rw c.in-Draws.is (works_part c.draw_on.ensures.kept c.draw_on.ensures.does c.draw_on.ensures.needs c.draw_on.ensures.waits)

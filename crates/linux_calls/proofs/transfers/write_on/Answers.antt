@@ -7,6 +7,10 @@ use Rattle.guest_pages.specs.Pages.{byte_of, table_of}
 use Rattle.linux_calls.specs.View.{view_of}
 use Rattle.linux_calls.proofs.FileMoves.{writes_do, writes_low, writes_places, writes_need}
 use Rattle.linux_calls.proofs.AppendLemmas.{same_writes, opened_some}
+use Rattle.machine_state.specs.declared.kinds.Kind.TheVariants.{Read}
+use Rattle.guest_pages.proofs.Carries.{keeps_same}
+use Rattle.linux_calls.proofs.AppendLemmas.{outside_writes}
+use Rattle.linux_calls.proofs.WaitLemmas.{moving_waits_at}
 use Rattle.linux_calls.proofs.transfers.write_on.Goals as goal
 
 no_swap : Swap
@@ -42,3 +46,12 @@ returns-clause-needs c =
     c.write_file-stop.result (table_of c.args.w.now.pages.now) c.known.ensures.kept c.requires.is (rw c.pieces.ensures at c.write_file-stop.ensures.stops) (rw c.pieces.ensures at (c.write_file-stop.ensures.writes no_swap)))
     (writes_places (byte_of c.args.w.now.pages.now no_swap) c.pieces.result.now c.args.from c.args.w.now.files.now c.write_file-stop.new.files c.args.fd c.args.at c.write_file-stop.result (c.write_file-stop.ensures.writes no_swap)) (writes_low (byte_of c.args.w.now.pages.now no_swap) c.args.w.now.progress.now.pieces c.args.from c.args.w.now.files.now c.write_file-stop.new.files c.args.fd c.args.at c.write_file-stop.result
     c.known.ensures.cap c.requires.can.other.1 (rw c.pieces.ensures at (c.write_file-stop.ensures.writes no_swap))) (rw c.pieces.ensures at c.write_file-stop.ensures.stops) c.finish_at.ensures.ends
+
+pub returns-clause-waits : goal.returns-clause-waits
+returns-clause-waits c =
+    moving_waits_at (view_of c.args.w.now) c.args.w.now.pages.now c.write_file-stop.new.files c.args.w.now.random.now c.args.from Read c.requires.can.most (keeps_same c.args.w.now.pages.now)
+    c.write_file-stop.result c.args.fd c.args.at c.args.moves (view_of c.finish_at.new.w) c.finish_at.result
+    (outside_writes c.args.w.now.gprs.now c.args.w.now.files.now c.write_file-stop.new.files c.args.from c.args.fd c.args.at c.args.moves c.write_file-stop.result c.requires.is
+    (same_writes c.args.w.now.gprs.now c.args.w.now.files.now c.write_file-stop.new.files (byte_of c.args.w.now.pages.now no_swap) c.args.w.now.progress.now.pieces c.args.from c.args.fd c.args.at c.args.moves
+    c.write_file-stop.result (table_of c.args.w.now.pages.now) c.known.ensures.kept c.requires.is (rw c.pieces.ensures at c.write_file-stop.ensures.stops) (rw c.pieces.ensures at (c.write_file-stop.ensures.writes no_swap))))
+    (rw c.pieces.ensures at c.write_file-stop.ensures.stops) c.finish_at.ensures.ends
