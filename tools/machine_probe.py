@@ -1,5 +1,5 @@
 """A program over `core_step` that takes steps of the machine that `xemu` runs, from starts that are given line by line."""
-USES = "core_step"
+USES = "core_step page_fixture"
 ANSWER = r"(done|de|bp|ud|gp|pf)( [0-9a-f]+){4}( @?[0-9a-f]+=[0-9a-f]+)*"
 
 
@@ -13,6 +13,7 @@ MAIN = """\
 #![tactic(auto)]
 
 use core_step::{Acted, Fault, Fetched, Flags, Gprs, Kind, Machine, Pages, Perms, VecFile};
+use page_fixture::map_in_frame;
 use std::io;
 
 /// A line's numbers are in hexadecimal, and its numbers of several bytes in a record have the lowest first.
@@ -90,9 +91,9 @@ fn registers(line: &Line) -> Gprs {
 }
 
 fn machine(rt: &HostRuntime, line: &Line) -> Result<Machine, io::Error> {
-    let mut pages = Pages::new(rt.alloc(), 2, 2)?;
-    let _ = pages.map_page(line.place(0), Perms(5));
-    let _ = pages.map_page(line.place(1), Perms(5));
+    let mut pages = Pages::new(rt.alloc(), 8, 8)?;
+    let _ = map_in_frame(&mut pages, line.place(0), Perms(5));
+    let _ = map_in_frame(&mut pages, line.place(1), Perms(5));
     Ok(Machine {
         gprs: Gprs::new(),
         flags: Flags::none(),

@@ -10,11 +10,11 @@ import sys
 SECONDS = "600"
 
 
-def listed_crates(root, crate):
-    """The lines of crates.txt for a crate and all that it stands on, lowest first."""
+def listed_crates(root, crates):
+    """The lines of crates.txt for some crates and all that they stand on, lowest first."""
     lines = [line for line in (root / "crates.txt").read_text().splitlines() if line and line[0] != "#"]
     uses = {line.split(":")[0]: line.split(":")[1].split() for line in lines}
-    wanted, more = set(), {crate}
+    wanted, more = set(), set(crates.split())
     while more:
         wanted |= more
         more = {below for name in more for below in uses[name] if below in uses} - wanted
@@ -22,7 +22,7 @@ def listed_crates(root, crate):
 
 
 def build(root, folder, name, uses, main):
-    """A repository with the program NAME, whose text is `main`, over the crate that it uses. Returns the program's folder."""
+    """A repository with the program NAME, whose text is `main`, over the crates that it uses. Returns the program's folder."""
     lines = listed_crates(root, uses)
     for crate in [line.split(":")[0] for line in lines]:
         shutil.copytree(root / "crates" / crate, folder / "crates" / crate,

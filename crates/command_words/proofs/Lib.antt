@@ -1,4 +1,8 @@
-pub mod CommandLemmas
 pub mod NumberLemmas
-pub mod OptionLemmas
+pub mod SearchLemmas
+pub mod PairLemmas
+pub mod NameLemmas
+pub mod FileLemmas
 pub mod ReadLemmas
+pub mod EndLemmas
+pub mod CommandLemmas

@@ -7,16 +7,26 @@ ghost use Rattle.command_words.specs.Options.{text_of, takes_value as takes_valu
 pub enum OptionName {
     Budget,
     Pages,
+    Resident,
+    Swap,
     Seed,
+    Cap,
+    In,
+    Out,
     Env,
     Report,
 }
 
 impl OptionName {
-    const ALL: [OptionName; 5] = [
+    const ALL: [OptionName; 10] = [
         OptionName::Budget,
         OptionName::Pages,
+        OptionName::Resident,
+        OptionName::Swap,
         OptionName::Seed,
+        OptionName::Cap,
+        OptionName::In,
+        OptionName::Out,
         OptionName::Env,
         OptionName::Report,
     ];
@@ -28,7 +38,12 @@ impl OptionName {
         match self {
             OptionName::Budget => "--budget",
             OptionName::Pages => "--pages",
+            OptionName::Resident => "--resident",
+            OptionName::Swap => "--swap",
             OptionName::Seed => "--seed",
+            OptionName::Cap => "--cap",
+            OptionName::In => "--in",
+            OptionName::Out => "--out",
             OptionName::Env => "--env",
             OptionName::Report => "--report",
         }
@@ -39,7 +54,15 @@ impl OptionName {
         ensures { result ≡ takes_value_of self }
     {
         match self {
-            OptionName::Budget | OptionName::Pages | OptionName::Seed | OptionName::Env => true,
+            OptionName::Budget
+            | OptionName::Pages
+            | OptionName::Resident
+            | OptionName::Swap
+            | OptionName::Seed
+            | OptionName::Cap
+            | OptionName::In
+            | OptionName::Out
+            | OptionName::Env => true,
             OptionName::Report => false,
         }
     }

@@ -1,13 +1,15 @@
 //! The words as texts.
-ghost use Rattle.std.specs.Prelude.{◌≡◌, ◌<◌, map, length, string_bytes};
+ghost use Rattle.std.specs.Prelude.{◌≡◌, map, string_bytes};
 ghost use Rattle.command_words.specs.Texts.{word_at, has_zero as has_zero_of, begins_as_option as begins_as_option_of};
 
-/// The word at a place.
+/// The word at a place; empty behind the last one.
 pub(crate) fn text_at(words: &[String], place: usize) -> &str
-    requires { place < length words.now }
     ensures { result.now ≡ word_at (map string_bytes words.now) place }
 {
-    words[place].as_str()
+    match words.get(place) {
+        Some(word) => word.as_str(),
+        None => "",
+    }
 }
 
 /// Whether a text has the byte 0.

@@ -4,6 +4,7 @@ mod vectors;
 
 use crate::{Acted, Fault, FetchCache, Fetched, Flags, Gprs, Kept, Machine, Pages, Perms, VecFile};
 use machine_state::{Kind, PAGE_SIZE};
+use page_fixture::map_in_frame;
 use processor::{Row, State};
 use std::alloc::Global;
 use std::process::Abort;
@@ -47,8 +48,8 @@ fn data() -> [u8; PAGE] {
 // A machine with a page of code, which can be written too, and one of data, at the start of a row.
 fn machine(rt: &impl Abort, alloc: Global, code: &[u8]) -> Result<Machine, Fail> {
     let mut pages = Pages::new(alloc, 8, 8)?;
-    assert_eq!(rt; pages.map_page(CODE, Perms(7)), Ok(()));
-    assert_eq!(rt; pages.map_page(DATA, Perms(3)), Ok(()));
+    assert_eq!(rt; map_in_frame(&mut pages, CODE, Perms(7)), Ok(()));
+    assert_eq!(rt; map_in_frame(&mut pages, DATA, Perms(3)), Ok(()));
     assert_eq!(rt; pages.write(CODE + 0x100, code), Ok(()));
     assert_eq!(rt; pages.write(DATA, &data()), Ok(()));
     let mut gprs = Gprs::new();

@@ -1,11 +1,11 @@
 -- Lemmas on what the pages keep of their slots, frames and lists.
-use Rattle.std.proofs.Common.{◌≡◌, ℕ, ◌+◌, ◌<◌, ◌≤◌, List, Bool, cond, Option, Some, None, length, get_or, set, refl, ◌∙◌, arith, count_by}
+use Rattle.std.proofs.Common.{◌≡◌, ℕ, ◌+◌, ◌<◌, ◌≤◌, List, false, cond, Option, Some, None, length, get_or, set, refl, ◌∙◌, arith, count_by}
 use Rattle.guest_pages.specs.declared.lists.Lists.{Lists}
 use Rattle.guest_pages.specs.declared.entry.Entry.{Entry}
 use Rattle.guest_pages.specs.Entry.{is_in_frame, is_resident}
 use Rattle.guest_pages.specs.Lists.{AreListed, moved}
 use Rattle.guest_pages.specs.Pages.{PagesValue, resident_count}
-use Rattle.guest_pages.specs.Slots.{IsSeatOf, CanTake, AreShared, IsKept, IsInOrder, with_last, bucket_of, home_in}
+use Rattle.guest_pages.specs.Slots.{IsSeatOf, CanTake, AreShared, IsKept, IsInOrder, bucket_of, home_in}
 use Rattle.guest_pages.specs.Order.{without}
 use Rattle.guest_pages.proofs.Orders.{ordered_put, ordered_same}
 use Rattle.std.proofs.lemmas.List.{append-nil}
@@ -29,14 +29,14 @@ kept_changed slots frames free capacity lists page k entry after seat is page_is
       filed = filed_same slots lists k (Some after) seat.within (rw (is, same) refl) kept.filed;
     }
 
--- a slot is given to a page, with the frame of its page before or a free one
-pub kept_filled : (slots : List (Option Entry)) (frames free free' capacity capacity' : ℕ) (old new : Lists) (k : ℕ) (entry : Entry) (given : Bool) → CanTake slots entry.page k
-    → entry.page < 0x800000000 → is_resident entry.place ≡ given → free' + cond given 1 0 ≡ free + cond (is_in_frame (get_or slots k None)) 1 0 → capacity' ≡ capacity
+-- a slot is given to a page that is away, and the frame of its page before is free
+pub kept_filled : (slots : List (Option Entry)) (frames free free' capacity capacity' : ℕ) (old new : Lists) (k : ℕ) (entry : Entry) → CanTake slots entry.page k
+    → entry.page < 0x800000000 → is_resident entry.place ≡ false → free' ≡ free + cond (is_in_frame (get_or slots k None)) 1 0 → capacity' ≡ capacity
     → AreListed new (moved (home_in slots) k (bucket_of entry.page (length slots))) → length new.heads.items ≡ length old.heads.items → length new.nexts.items ≡ length old.nexts.items
     → IsKept slots frames free capacity old → IsKept (set slots k (Some entry)) frames free' capacity' new
-kept_filled slots frames free free' capacity capacity' old new k entry given can low is moved_frame room listed heads nexts kept =
-    let counts = frames_taken slots k entry can.within in
-    let given_is : free' + cond (is_resident entry.place) 1 0 ≡ free + cond (is_in_frame (get_or slots k None)) 1 0 = rw (← is) at moved_frame in
+kept_filled slots frames free free' capacity capacity' old new k entry can low away given room listed heads nexts kept =
+    let counts : count_by is_in_frame (set slots k (Some entry)) + cond (is_in_frame (get_or slots k None)) 1 0 ≡ count_by is_in_frame slots + 0 =
+    rw away at (frames_taken slots k entry can.within) in
     record {
       sound = sound_taken slots k entry can low kept.sound;
       shares = record { shared = (let before = kept.shares.shared in omega arith); room = rw room kept.shares.room };
@@ -68,14 +68,14 @@ order_changed slots frames free capacity lists order room page k entry after sea
 }
 
 -- and where a slot is given to a page
-pub order_filled : (slots : List (Option Entry)) (frames free free' capacity capacity' : ℕ) (old new : Lists) (order order' : List ℕ) (room room' k : ℕ) (entry : Entry) (given : Bool)
-    → CanTake slots entry.page k → entry.page < 0x800000000 → is_resident entry.place ≡ given → free' + cond given 1 0 ≡ free + cond (is_in_frame (get_or slots k None)) 1 0
+pub order_filled : (slots : List (Option Entry)) (frames free free' capacity capacity' : ℕ) (old new : Lists) (order order' : List ℕ) (room room' k : ℕ) (entry : Entry)
+    → CanTake slots entry.page k → entry.page < 0x800000000 → is_resident entry.place ≡ false → free' ≡ free + cond (is_in_frame (get_or slots k None)) 1 0
     → capacity' ≡ capacity → AreListed new (moved (home_in slots) k (bucket_of entry.page (length slots))) → length new.heads.items ≡ length old.heads.items
-    → length new.nexts.items ≡ length old.nexts.items → order' ≡ with_last given k (without k order) → room' ≡ room
+    → length new.nexts.items ≡ length old.nexts.items → order' ≡ without k order → room' ≡ room
     → IsInOrder slots frames free capacity old order room → IsInOrder (set slots k (Some entry)) frames free' capacity' new order' room'
-order_filled slots frames free free' capacity capacity' old new order order' room room' k entry given can low is moved_frame has listed heads nexts order_is room_is whole = record {
-  kept = kept_filled slots frames free free' capacity capacity' old new k entry given can low is moved_frame has listed heads nexts whole.kept;
-  ordered = rw (order_is, ← is) (ordered_put slots order k (Some entry) can.within whole.ordered);
+order_filled slots frames free free' capacity capacity' old new order order' room room' k entry can low away given has listed heads nexts order_is room_is whole = record {
+  kept = kept_filled slots frames free free' capacity capacity' old new k entry can low away given has listed heads nexts whole.kept;
+  ordered = rw (order_is, ← append-nil (without k order)) (rw away at (ordered_put slots order k (Some entry) can.within whole.ordered));
   some = whole.some;
   room_is = rw room_is whole.room_is;
 }

@@ -1,21 +1,19 @@
 -- Lemmas on a page that is mapped.
-use Rattle.std.proofs.Common.{◌≡◌, ℕ, ◌+◌, ◌/◌, ◌%◌, ◌<◌, ◌≤◌, List, Bool, true, false, cond, Option, Some, None, length, get_or, ◌==◌, refl, sym, ap, ◌∙◌, ⊎_elim, arith, ◌≢◌, is_some, count_by, nat_lt, ◌||◌, ◌&&◌, [], is_none, MatchOption}
-use Rattle.std.proofs.lemmas.List.{get_or_past, length-set}
-use Rattle.std.proofs.lemmas.Bool.{cases_eq, cases_lt, eq-eqb, false≢true, lt-ltb, le-ltb}
+use Rattle.std.proofs.Common.{◌≡◌, ℕ, ◌+◌, ◌/◌, ◌<◌, ◌≤◌, List, Bool, true, false, cond, Option, Some, None, length, get_or, ◌==◌, refl, sym, ap, ◌∙◌, ⊎_elim, arith, ◌≢◌, is_some, count_by, [], MatchOption}
+use Rattle.std.proofs.lemmas.List.{length-set}
+use Rattle.std.proofs.lemmas.Bool.{cases_eq, eq-eqb, false≢true}
 use Rattle.machine_state.specs.Memory.{page_size}
 use Rattle.guest_pages.specs.declared.entry.Entry.{Entry}
-use Rattle.guest_pages.specs.declared.entry.Place.{Place}
-use Rattle.guest_pages.specs.declared.entry.Place.TheVariants.{Resident, Zeros, Swapped}
-use Rattle.guest_pages.specs.declared.entry.Mark.TheVariants.{Fresh}
+use Rattle.guest_pages.specs.declared.entry.Place.TheVariants.{Zeros}
 use Rattle.guest_pages.specs.declared.lists.Lists.{Lists}
 use Rattle.guest_pages.specs.Lists.{AreListed}
-use Rattle.guest_pages.specs.Entry.{is_resident, is_in_frame, mark_in, place_byte, IsZeros}
-use Rattle.guest_pages.specs.Table.{Mapped, Table, away_at, in_frame, with_entry}
-use Rattle.guest_pages.specs.Pages.{PagesValue, table_of, byte_of, mark_of, mapped_count, resident_count}
-use Rattle.guest_pages.specs.Changes.{AllResident, IsBlank, IsMapped, with_mark, gets_frame}
-use Rattle.guest_pages.specs.Order.{placed}
+use Rattle.guest_pages.specs.Entry.{is_in_frame}
+use Rattle.guest_pages.specs.Table.{Mapped}
+use Rattle.guest_pages.specs.Pages.{PagesValue, table_of, byte_of, mapped_count}
+use Rattle.guest_pages.specs.Changes.{IsBlank, IsMapped}
+use Rattle.guest_pages.specs.Order.{without}
 use Rattle.guest_pages.proofs.Orders.{ordered_none}
-use Rattle.guest_pages.specs.Slots.{LacksPage, IsSeatOf, AreSound, AreShared, CanTake, AreFiled, IsInOrder, list_of}
+use Rattle.guest_pages.specs.Slots.{LacksPage, IsSeatOf, AreSound, CanTake, AreFiled, IsInOrder, list_of}
 use Rattle.guest_pages.proofs.Counts.{count_by_none, count_by_below}
 use Rattle.guest_pages.proofs.Seats.{seek_none, take_free}
 use Rattle.guest_pages.proofs.Tables.{table_at, table_none, mapped_entry}
@@ -56,25 +54,11 @@ not_full pages page k can none full = by_slot (get_or pages.slots k None) refl
     by_slot None is = let below : count_by is_some pages.slots < length pages.slots = count_by_below is_some pages.slots k None can.within (rw is refl) in omega arith
     by_slot (Some entry) is = let mapped = table_at pages page k entry (taken_seat pages.slots page k entry can is) is in cc
 
--- the bytes and the mark of a page of zeros
-pub zeros_byte : (place : Place) (swapped : List ℕ) (at : ℕ) → IsZeros place → place_byte swapped place at ≡ 0
-zeros_byte (Resident bytes mark) swapped at h = ⊎_elim
-    (λ (within : at < length bytes). h.0 at 0 within)
-    (λ (past : length bytes ≤ at). get_or_past bytes at 0 past)
-    (cases_lt at (length bytes))
-zeros_byte Zeros swapped at h = refl
-zeros_byte Swapped swapped at h = absurd h
-
-zeros_mark : (place : Place) → IsZeros place → mark_in place ≡ cond (is_resident place) (Some Fresh) None
-zeros_mark (Resident bytes mark) h = rw h.1 refl
-zeros_mark Zeros h = refl
-zeros_mark Swapped h = absurd h
-
 zero_case : (b : Bool) (x y : ℕ) → x ≡ 0 → cond b x y ≡ cond b 0 y
 zero_case true x y h = h
 zero_case false x y h = refl
 
-module _ (pages : PagesValue) (k : ℕ) (entry : Entry) (recent : List ℕ) (can : CanTake pages.slots entry.page k) (zeros : IsZeros entry.place) where
+module _ (pages : PagesValue) (k : ℕ) (entry : Entry) (recent : List ℕ) (can : CanTake pages.slots entry.page k) (zeros : entry.place ≡ Zeros) where
   count_is : (slot : Option Entry) → get_or pages.slots k None ≡ slot → mapped_count (taken pages k entry recent) ≡ mapped_count pages + cond (is_some (table_of pages entry.page)) 0 1
   count_is None is =
       let counts : mapped_count (taken pages k entry recent) + 0 ≡ mapped_count pages + 1 = rw is at (count_taken pages k entry recent can.within) in
@@ -96,44 +80,22 @@ module _ (pages : PagesValue) (k : ℕ) (entry : Entry) (recent : List ℕ) (can
       apart (sym (can.here other (rw (sym same) there.1)))
 
   -- the pages where a page of zeros is mapped
-  pub mapped_there : recent ≡ placed k (is_resident entry.place) pages.recent → IsMapped pages (taken pages k entry recent) entry.page entry.perms.0
+  pub mapped_there : recent ≡ without k pages.recent → IsMapped pages (taken pages k entry recent) entry.page entry.perms.0
   mapped_there recent_is = record {
     size = size_taken pages k entry recent;
     entry = entry_mapped k entry;
     table = table_taken pages k entry recent can;
     perms_are = refl;
+    away = rw zeros refl;
     slot_stays = stays (get_or pages.slots k None) refl;
     slot_within = rw (length-set pages.slots k (let o : Option Entry = Some entry in o)) can.within;
     slot_apart = λ other mapped apart h. apart_from other mapped apart h;
     byte = λ swap i at.
-        (byte_taken pages k entry recent can swap at ∙ zero_case (at / page_size == entry.page) _ _ (zeros_byte entry.place (swap k) (at % page_size) zeros)) i;
-    marks = mark_taken pages k entry recent can ∙ ap (with_mark (mark_of pages) entry.page) (zeros_mark entry.place zeros);
+        (byte_taken pages k entry recent can swap at ∙ zero_case (at / page_size == entry.page) _ _ (rw zeros refl)) i;
+    marks = mark_taken pages k entry recent can ∙ rw zeros refl;
     recent = recent_is;
     count = count_is (get_or pages.slots k None) refl;
   }
-
--- the page that is mapped gets a frame where there are as many frames as pages
-framed_case : (slot resident once : Bool) (free count frames most : ℕ) → resident ≡ (once && (slot || nat_lt 0 free)) → once ≡ true → free + count ≡ frames
-    → frames ≡ most → (slot ≡ false → count < most) → resident ≡ true
-framed_case true resident once free count frames most is at_once shared same below = is ∙ rw at_once refl
-framed_case false resident once free count frames most is at_once shared same below =
-    let some : 0 < free = (let fewer = below refl in omega arith) in
-    is ∙ rw (at_once, lt-ltb 0 free some) refl
-
-pub resident_mapped : (pages : PagesValue) (k free capacity : ℕ) (entry : Entry) (recent : List ℕ) (once : Bool) → CanTake pages.slots entry.page k
-    → AreShared pages.slots pages.frames free capacity → is_resident entry.place ≡ (once && (is_in_frame (get_or pages.slots k None) || nat_lt 0 free))
-    → (pages.frames ≡ length pages.slots → once ≡ true) → pages.frames ≡ length pages.slots → AllResident pages → AllResident (taken pages k entry recent)
-resident_mapped pages k free capacity entry recent once can shares is at_once same all page =
-    let resident : is_resident entry.place ≡ true =
-    framed_case (is_in_frame (get_or pages.slots k None)) (is_resident entry.place) once free (count_by is_in_frame pages.slots) pages.frames (length pages.slots) is (at_once same)
-    shares.shared same (λ out. count_by_below is_in_frame pages.slots k None can.within out) in
-    let table : table_of (taken pages k entry recent) page ≡ with_entry (table_of pages) entry.page (Some (entry_mapped k entry)) page =
-    ap (λ (t : Table). t page) (table_taken pages k entry recent can) in
-    rw table (in_case (page == entry.page) k entry (table_of pages page) resident (all page))
-  where
-    in_case : (b : Bool) (k : ℕ) (entry : Entry) (other : Option Mapped) → is_resident entry.place ≡ true → away_at other ≡ None → away_at (cond b (Some (entry_mapped k entry)) other) ≡ None
-    in_case true k entry other resident h = rw resident refl
-    in_case false k entry other resident h = h
 
 blank_lacks : (slots : List (Option Entry)) → ((i : ℕ) → get_or slots i None ≡ None) → (page : ℕ) → LacksPage slots page
 blank_lacks slots blank page = λ i h. rw (blank i) refl
@@ -181,50 +143,3 @@ blank_there pages frames most blank frames_are pages_are empty = record {
   marks = λ page. mark_none pages page (blank_lacks pages.slots blank page);
   count = count_by_none is_some pages.slots None (λ i h. rw (blank i) refl);
 }
-
-pub blank_resident : (pages : PagesValue) → ((i : ℕ) → get_or pages.slots i None ≡ None) → AllResident pages
-blank_resident pages blank page = rw (table_none pages page (blank_lacks pages.slots blank page)) refl
-
-mapped_case : (table : Table) (page : ℕ) (entry : Mapped) → in_frame (with_entry table page (Some entry) page) ≡ entry.resident
-mapped_case table page entry = rw (eq-eqb page page refl) refl
-
-slot_case : (pages : PagesValue) (page k : ℕ) (slot : Option Entry) → CanTake pages.slots page k → get_or pages.slots k None ≡ slot
-    → is_in_frame (get_or pages.slots k None) ≡ in_frame (table_of pages page)
-slot_case pages page k None can is = rw (is, table_none pages page (free_lacks pages.slots page k can is)) refl
-slot_case pages page k (Some entry) can is = rw (is, table_at pages page k entry (taken_seat pages.slots page k entry can is) is) refl
-
-free_case : (free count frames : ℕ) → free + count ≡ frames → nat_lt 0 free ≡ nat_lt count frames
-free_case free count frames shared = ⊎_elim
-    (λ (some : 0 < free). let below : count < frames = omega arith in lt-ltb 0 free some ∙ sym (lt-ltb count frames below))
-    (λ (none : free ≤ 0). let all : frames ≤ count = omega arith in le-ltb 0 free none ∙ sym (le-ltb count frames all))
-    (cases_lt 0 free)
-
-once_case : (pages : PagesValue) (page k : ℕ) (slot : Option Entry) → CanTake pages.slots page k → get_or pages.slots k None ≡ slot
-    → is_none (get_or pages.slots k None) ≡ is_none (table_of pages page)
-once_case pages page k None can is = rw (is, table_none pages page (free_lacks pages.slots page k can is)) refl
-once_case pages page k (Some entry) can is = rw (is, table_at pages page k entry (taken_seat pages.slots page k entry can is) is) refl
-
--- the page that is mapped is in a frame where it gets one at once and one is free
-pub framed_there : (pages : PagesValue) (k free capacity : ℕ) (entry : Entry) (recent : List ℕ) (once : Bool) → CanTake pages.slots entry.page k
-    → AreShared pages.slots pages.frames free capacity → once ≡ (is_none (get_or pages.slots k None) || pages.frames == length pages.slots)
-    → is_resident entry.place ≡ (once && (is_in_frame (get_or pages.slots k None) || nat_lt 0 free))
-    → in_frame (table_of (taken pages k entry recent) entry.page)
-    ≡ (gets_frame pages entry.page && (in_frame (table_of pages entry.page) || nat_lt (resident_count pages) pages.frames))
-unfolding resident_count
-framed_there pages k free capacity entry recent once can shares at_once is =
-    ap (λ (t : Table). in_frame (t entry.page)) (table_taken pages k entry recent can)
-    ∙ mapped_case (table_of pages) entry.page (entry_mapped k entry)
-    ∙ is
-    ∙ ap (λ (b : Bool). b && (is_in_frame (get_or pages.slots k None) || nat_lt 0 free)) at_once
-    ∙ (λ i. (once_case pages entry.page k (get_or pages.slots k None) can refl i || pages.frames == length pages.slots)
-    && (slot_case pages entry.page k (get_or pages.slots k None) can refl i || free_case free (count_by is_in_frame pages.slots) pages.frames shares.shared i))
-
--- a frame is free once a slot's was given up where it had one or another is
-pub freed : (b : Bool) (free free' : ℕ) → free' ≡ free + cond b 1 0 → nat_lt 0 free' ≡ (b || nat_lt 0 free)
-freed true free after is = lt-ltb 0 after (omega arith)
-freed false free after is = ap (λ (n : ℕ). nat_lt 0 n) (let same : after ≡ free = omega arith in same)
-
--- as many frames as pages
-pub whole_once : (b : Bool) (frames most : ℕ) → frames ≡ most → (b || frames == most) ≡ true
-whole_once true frames most same = refl
-whole_once false frames most same = eq-eqb frames most same

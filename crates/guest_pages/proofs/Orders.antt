@@ -1,5 +1,5 @@
 -- Lemmas on the order in which pages are brought.
-use Rattle.std.proofs.Common.{◌≡◌, ◌≢◌, ℕ, ◌+◌, ◌<◌, ◌≤◌, ◌==◌, ◌&&◌, ◌||◌, not, List, [], ◌∷◌, ◌++◌, length, get_or, set, Bool, true, false, cond, Option, Some, None, nat_eq, count_by, reverse, refl, sym, ap, ◌∙◌, ⊎_elim, arith}
+use Rattle.std.proofs.Common.{◌≡◌, ◌≢◌, ℕ, ◌+◌, ◌<◌, ◌==◌, ◌&&◌, ◌||◌, not, List, [], ◌∷◌, ◌++◌, length, get_or, set, Bool, true, false, cond, Option, Some, None, nat_eq, count_by, reverse, refl, sym, ap, ◌∙◌, ⊎_elim, arith}
 use Rattle.std.specs.List.{filter, IsDistinct, AllByRecursion}
 use Rattle.std.specs.Cmp.{nat_eq_equiv}
 use Rattle.std.proofs.lemmas.Bool.{eq-eqb, ne_eqb, eqb-true, eqb-false, cases_eq}
@@ -13,7 +13,7 @@ use Rattle.guest_pages.specs.declared.entry.Place.{Place}
 use Rattle.guest_pages.specs.declared.entry.Place.TheVariants.{Resident, Zeros, Swapped}
 use Rattle.guest_pages.specs.Entry.{is_in_frame, slot_frame, place_frame, is_resident}
 use Rattle.guest_pages.specs.Lists.{among}
-use Rattle.guest_pages.specs.Order.{without, placed}
+use Rattle.guest_pages.specs.Order.{without}
 use Rattle.guest_pages.specs.Slots.{IsOrdered, with_last}
 
 or_none : (a b : Bool) → (a || b) ≡ false → (a ≡ false) × (b ≡ false)
@@ -159,10 +159,6 @@ filter_reverse p (x ∷ xs) =
     ∙ ap (filter p) (sym (reverse-append (x ∷ []) xs))
 
 -- the order as contracts see it, the last first
-pub order_placed : (k : ℕ) (b : Bool) (order : List ℕ) → reverse (with_last b k (without k order)) ≡ placed k b (reverse order)
-order_placed k true order = reverse-append (without k order) (k ∷ []) ∙ ap (λ (xs : List ℕ). k ∷ xs) (filter_reverse (λ n. not (n == k)) order)
-order_placed k false order = ap reverse (append-nil (without k order)) ∙ filter_reverse (λ n. not (n == k)) order
-
 pub order_without : (k : ℕ) (order : List ℕ) → reverse (without k order) ≡ without k (reverse order)
 order_without k order = filter_reverse (λ n. not (n == k)) order
 
@@ -175,11 +171,3 @@ no_frame_slot (Some entry) h = place_case entry.place h
     place_case (Resident bytes mark) h = cc
     place_case Zeros h = refl
     place_case Swapped h = refl
-
--- where a frame is free there is room in the order
-pub order_room : (slots : List (Option Entry)) (order order' : List ℕ) (frames free free' room room' k : ℕ) (b : Bool) → IsOrdered slots order → is_in_frame (get_or slots k None) ≡ b
-    → free + count_by is_in_frame slots ≡ frames → free' ≡ free + cond b 1 0 → order' ≡ without k order → frames ≤ room → room' ≡ room → 0 < free' → length order' < room'
-order_room slots order order' frames free free' room room' k b ordered is shared given order_is has same some =
-    let lens : length (without k order) + cond b 1 0 ≡ length order = rw (ordered.has k, is) at (without_len k order ordered.once) in
-    let was = ordered.count in
-    rw order_is (omega arith)

@@ -1,15 +1,14 @@
 -- Lemmas on a page whose permissions change.
-use Rattle.std.proofs.Common.{◌≡◌, ℕ, ap, add-zero, ◌/◌, ◌%◌, List, Bool, true, false, cond, Option, Some, None, get_or, ◌==◌, refl, sym, ◌∙◌, ⊎_elim, ◌≢◌, IsSome, set}
+use Rattle.std.proofs.Common.{◌≡◌, ℕ, ap, add-zero, ◌/◌, ◌%◌, List, Option, Some, None, get_or, refl, sym, ◌∙◌, ⊎_elim, ◌≢◌, IsSome, set}
 use Rattle.std.proofs.lemmas.Bool.{cases_eq, eq-eqb, ne_eqb, false≢true}
 use Rattle.machine_state.specs.Memory.{page_size, Swap, zeroed}
 use Rattle.machine_state.specs.declared.permissions.Perms.{Perms}
 use Rattle.guest_pages.specs.declared.entry.Entry.{Entry}
-use Rattle.std.specs.Option.{option_map}
 use Rattle.guest_pages.specs.declared.lists.Lists.{Lists}
 use Rattle.guest_pages.specs.Entry.{mark_in, HasPerms}
-use Rattle.guest_pages.specs.Table.{Mapped, away_at}
+use Rattle.guest_pages.specs.Table.{Mapped}
 use Rattle.guest_pages.specs.Pages.{PagesValue, seat_byte, table_of, byte_of, mark_of, mapped_count}
-use Rattle.guest_pages.specs.Changes.{AllResident, IsProtected, IsUnmapped, with_perms}
+use Rattle.guest_pages.specs.Changes.{IsProtected, IsUnmapped}
 use Rattle.guest_pages.specs.Slots.{LacksPage, IsSeatOf, AreSound, CanTake, IsInOrder}
 use Rattle.guest_pages.proofs.Seats.{seek_at, seek_none, seat_at, take_seat, entry_there}
 use Rattle.guest_pages.proofs.Tables.{table_at, table_none}
@@ -49,16 +48,6 @@ module _ (pages : PagesValue) (page k : ℕ) (entry : Entry) (seat : IsSeatOf pa
     recent = refl;
   }
 
-perms_away : (b : Bool) (perms : ℕ) (old other : Option Mapped) → away_at old ≡ None → away_at other ≡ None → away_at (cond b (option_map (with_perms perms) old) other) ≡ None
-perms_away true perms None other h l = refl
-perms_away true perms (Some some) other h l = h
-perms_away false perms old other h l = l
-
--- a page in a frame stays there
-pub protected_resident : (old new : PagesValue) (page perms : ℕ) → IsProtected old new page perms → AllResident old → AllResident new
-protected_resident old new page perms protected all q =
-    rw protected.table (perms_away (q == page) perms (table_of old page) (table_of old q) (all page) (all q))
-
 -- what the pages keep holds where a slot's page gets other permissions
 pub protected_kept : (slots : List (Option Entry)) (frames free capacity : ℕ) (lists : Lists) (order : List ℕ) (room page k : ℕ) (entry : Entry) (perms : Perms) → IsSeatOf slots page k
     → get_or slots k None ≡ Some entry → entry.page ≡ page → IsInOrder slots frames free capacity lists order room
@@ -68,14 +57,6 @@ protected_kept slots frames free capacity lists order room page k entry perms se
 
 pub mapped_seat : (pages : PagesValue) (page : ℕ) → LacksPage pages.slots page → IsSome (table_of pages page) → ⊥
 mapped_seat pages page lacks mapped = false≢true (rw (table_none pages page lacks) at mapped)
-
-none_away : (b : Bool) (other : Option Mapped) → away_at other ≡ None → away_at (cond b None other) ≡ None
-none_away true other h = refl
-none_away false other h = h
-
--- the other pages stay in frames
-pub unmapped_resident : (old new : PagesValue) (page : ℕ) → IsUnmapped old new page → AllResident old → AllResident new
-unmapped_resident old new page unmapped all q = rw unmapped.table (none_away (q == page) (table_of old q) (all q))
 
 absent_byte : (pages : PagesValue) (page : ℕ) → LacksPage pages.slots page → (swap : Swap) (at : ℕ) → byte_of pages swap at ≡ zeroed (byte_of pages swap) page at
 unfolding byte_of

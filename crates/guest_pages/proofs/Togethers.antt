@@ -4,7 +4,7 @@ use Rattle.std.specs.Option.{option_map, option_and_then}
 use Rattle.std.proofs.lemmas.Bool.{cases_eq, cases_Bool, eq-eqb, ne_eqb, false≢true}
 use Rattle.machine_state.specs.Memory.{page_size, Swap, zeroed}
 use Rattle.guest_pages.specs.declared.entry.Mark.{Mark}
-use Rattle.guest_pages.specs.declared.entry.Mark.TheVariants.{Fresh, Written}
+use Rattle.guest_pages.specs.declared.entry.Mark.TheVariants.{Written}
 use Rattle.guest_pages.specs.declared.entry.Place.{Place}
 use Rattle.guest_pages.specs.declared.entry.Place.TheVariants.{Resident, Zeros, Swapped}
 use Rattle.guest_pages.specs.declared.lists.Lists.{Lists}
@@ -55,10 +55,6 @@ kept_off old new page other mark byte marks out = record {
   bytes = λ swap addr on. let there : (addr / page_size == page) ≡ false = rw on out in ap (λ (f : ℕ → ℕ). f addr) (byte swap) ∙ rw there refl;
 }
 
-pub fresh_byte : (resident : Bool) (saved : List ℕ) (at : ℕ) → is_clean (cond resident (Some Fresh) None) ≡ true → 0 ≡ away_byte (is_kept (cond resident (Some Fresh) None)) saved at
-fresh_byte true saved at h = refl
-fresh_byte false saved at h = absurd (false≢true h)
-
 zero_on : (old new : PagesValue) (page : ℕ) (swap : Swap) (addr : ℕ) → byte_of new swap ≡ zeroed (byte_of old swap) page → addr / page_size ≡ page → byte_of new swap addr ≡ 0
 zero_on old new page swap addr byte on =
     let there : (addr / page_size == page) ≡ true = eq-eqb (addr / page_size) page on in
@@ -72,9 +68,7 @@ pub clean_mapped : (old new : PagesValue) (swap : Swap) (page perms : ℕ) → I
 clean_mapped old new swap page perms m clean = record {
   clean = λ other mapped is unwritten addr on. ⊎_elim
       (λ (same : other ≡ page).
-      let mark = mark_on old new page other (cond m.entry.resident (Some Fresh) None) m.marks same in
-      zero_on old new page swap addr (m.byte swap) (on ∙ same)
-      ∙ rw mark (fresh_byte m.entry.resident (swap mapped.slot) (addr % page_size) (rw mark at unwritten)))
+      absurd (false≢true (rw (mark_on old new page other None m.marks same) at unwritten)))
       (λ (apart : other ≢ page).
       let out = ne_eqb other page apart in
       clean_kept old new swap other mapped mapped clean (sym (table_off old new page other (Some m.entry) m.table out) ∙ is) refl
@@ -303,9 +297,9 @@ clean_zeroed old new swap page some zeroed clean = zeroed_is old new page (AreCl
 pub none_zero : (old new : PagesValue) (page : ℕ) → IsSome (table_of old page) → IsZeroed old new page → NoneSwapped old → NoneSwapped new
 none_zero old new page some zeroed none = zeroed_is old new page (NoneSwapped new) some zeroed (λ perms m. none_mapped old new page perms m none)
 
--- and stays mapped
+-- a page that is mapped is in the table, and stays there where it is mapped anew
+pub mapped_some : (old new : PagesValue) (page perms : ℕ) → IsMapped old new page perms → IsSome (table_of new page)
+mapped_some old new page perms m = rw (ap (λ (t : Table). t page) m.table, eq-eqb page page refl) refl
+
 pub zeroed_stays : (old new : PagesValue) (page : ℕ) → IsSome (table_of old page) → IsZeroed old new page → IsSome (table_of new page)
-zeroed_stays old new page some zeroed = zeroed_is old new page (IsSome (table_of new page)) some zeroed (λ perms m. stays perms m)
-  where
-    stays : (perms : ℕ) → IsMapped old new page perms → IsSome (table_of new page)
-    stays perms m = rw (ap (λ (t : Table). t page) m.table, eq-eqb page page refl) refl
+zeroed_stays old new page some zeroed = zeroed_is old new page (IsSome (table_of new page)) some zeroed (λ perms m. mapped_some old new page perms m)

@@ -1,12 +1,12 @@
 -- What the calls on pages show and change.
-use Rattle.std.specs.Prelude.{ℕ, ◌≡◌, ◌≢◌, ◌+◌, ◌-◌, ◌/◌, ◌<◌, ◌==◌, ◌⊎◌, Bool, true, false, ◌&&◌, ◌||◌, ◌%◌, if◌then◌else◌, List, [], ◌∷◌, length, slice_index, Option, Some, None, is_some, is_none, nat_lt, nat_le}
+use Rattle.std.specs.Prelude.{ℕ, ◌≡◌, ◌≢◌, ◌+◌, ◌-◌, ◌/◌, ◌<◌, ◌==◌, ◌⊎◌, Bool, true, false, ◌&&◌, ◌%◌, if◌then◌else◌, List, [], ◌∷◌, length, slice_index, Option, Some, None, is_some, nat_lt, nat_le}
 use Rattle.std.specs.Option.{option_map}
 use Rattle.machine_state.specs.Memory.{page_size, Swap, bytes_at, written, zeroed}
 use Rattle.guest_pages.specs.declared.entry.Mark.{Mark}
 use Rattle.guest_pages.specs.declared.entry.Mark.TheVariants.{Fresh, Saved, Written}
-use Rattle.guest_pages.specs.Table.{Mapped, away_at, with_entry}
+use Rattle.guest_pages.specs.Table.{Mapped, with_entry}
 use Rattle.guest_pages.specs.Pages.{PagesValue, table_of, byte_of, mark_of, is_swapped, mapped_count}
-use Rattle.guest_pages.specs.Order.{without, without_page, placed}
+use Rattle.guest_pages.specs.Order.{without, without_page}
 
 -- the numbers of frames and of pages stay
 pub record KeepsSize (old new : PagesValue) : Type 0 where
@@ -26,10 +26,6 @@ pub record KeepsTable (old new : PagesValue) : Type 0 where
   pub recent : new.recent ≡ old.recent
   pub count : mapped_count new ≡ mapped_count old
   pub pages : (page : ℕ) → KeepsPage old new page ⊎ (mark_of new page ≡ Some Written)
-
--- every mapped page is in a frame
-abbrev pub AllResident : PagesValue → Type 0
-AllResident pages = (page : ℕ) → away_at (table_of pages page) ≡ None
 
 -- the marks of frames, by page number
 abbrev pub Marks : Type 0
@@ -72,18 +68,19 @@ pub record IsWritten (old new : PagesValue) (addr : ℕ) (bytes : List ℕ) : Ty
   pub count : mapped_count new ≡ mapped_count old
 
 -- a page was mapped as zeros with these permissions, and nothing else changed; a page that was mapped keeps its slot, and
--- a new one gets a slot that no other page has; the page's frame is given up, and where it gets one it is first in the order
+-- a new one gets a slot that no other page has; the page is away, and the frame that it had is given up
 pub record IsMapped (old new : PagesValue) (page perms : ℕ) : Type 0 where
   pub size : KeepsSize old new
   pub entry : Mapped
   pub table : table_of new ≡ with_entry (table_of old) page (Some entry)
   pub perms_are : entry.perms ≡ perms
+  pub away : entry.resident ≡ false
   pub slot_stays : (mapped : Mapped) → table_of old page ≡ Some mapped → entry.slot ≡ mapped.slot
   pub slot_within : entry.slot < length new.slots
   pub slot_apart : (other : ℕ) (mapped : Mapped) → other ≢ page → table_of old other ≡ Some mapped → mapped.slot ≢ entry.slot
   pub byte : (swap : Swap) → byte_of new swap ≡ zeroed (byte_of old swap) page
-  pub marks : mark_of new ≡ with_mark (mark_of old) page (if entry.resident then Some Fresh else None)
-  pub recent : new.recent ≡ placed entry.slot entry.resident old.recent
+  pub marks : mark_of new ≡ with_mark (mark_of old) page None
+  pub recent : new.recent ≡ without entry.slot old.recent
   pub count : mapped_count new ≡ mapped_count old + (if is_some (table_of old page) then 0 else 1)
 
 -- a page isn't mapped, and nothing else changed
@@ -110,11 +107,6 @@ pub record IsProtected (old new : PagesValue) (page perms : ℕ) : Type 0 where
 -- a mapped page is mapped anew, with the permissions that it has
 abbrev pub IsZeroed : PagesValue → PagesValue → ℕ → Type 0
 IsZeroed old new page = (mapped : Mapped) → table_of old page ≡ Some mapped → IsMapped old new page mapped.perms
-
--- whether a page that is mapped now gets a frame at once, where one is free: a new page does, and where there are as many
--- frames as pages each page does
-abbrev pub gets_frame : PagesValue → ℕ → Bool
-gets_frame pages page = is_none (table_of pages page) || pages.frames == length pages.slots
 
 -- these are the bytes of a page, whatever the swap holds
 pub record AreBytesOf (pages : PagesValue) (page : ℕ) (bytes : List ℕ) : Type 0 where

@@ -1,5 +1,5 @@
 -- A mapped page, and where its bytes are.
-use Rattle.std.specs.Prelude.{ℕ, List, Bool, true, false, Option, Some, None, slice_index, slice_range, length, ◌+◌, ◌==◌, ◌≡◌, All, if◌then◌else◌}
+use Rattle.std.specs.Prelude.{ℕ, List, Bool, true, false, Option, Some, None, slice_index, slice_range, length, ◌+◌, ◌==◌, ◌≡◌, if◌then◌else◌}
 use Rattle.machine_state.specs.Memory.{page_size, permits}
 use Rattle.machine_state.specs.declared.kinds.Kind.{Kind}
 use Rattle.machine_state.specs.declared.permissions.Perms.{Perms}
@@ -88,12 +88,6 @@ pub record IsLent (at len : ℕ) (part bytes : List ℕ) : Type 0 where
 -- the slot of a page that isn't in a frame
 abbrev pub away_slot_of : Option Entry → ℕ → Option ℕ
 away_slot_of slot k = if is_in_frame slot then None else Some k
-
--- a page of zeros, as it is mapped
-abbrev pub IsZeros : Place → Type 0
-IsZeros (Resident bytes mark) = All (λ byte. byte ≡ 0) bytes × (mark ≡ Fresh)
-IsZeros Zeros = Unit {0}
-IsZeros Swapped = ⊥
 
 -- a slot whose page has other permissions
 abbrev pub slot_protected : Option Entry → Perms → Option Entry

@@ -1,5 +1,5 @@
 -- The order in which pages were brought.
-use Rattle.std.specs.Prelude.{ℕ, ◌==◌, ◌≡◌, Bool, not, List, [], ◌∷◌, ◌++◌, if◌then◌else◌, Option, Some, None, nat_eq, true, false}
+use Rattle.std.specs.Prelude.{ℕ, ◌==◌, ◌≡◌, Bool, not, List, [], ◌∷◌, ◌++◌, Option, Some, None, nat_eq, true, false}
 use Rattle.std.specs.List.{filter, list_any, IsDistinct}
 use Rattle.guest_pages.specs.Table.{Mapped}
 use Rattle.guest_pages.specs.Pages.{PagesValue, table_of}
@@ -12,10 +12,6 @@ without slot recent = filter (λ other. not (other == slot)) recent
 abbrev pub without_page : Option Mapped → List ℕ → List ℕ
 without_page None recent = recent
 without_page (Some mapped) recent = without mapped.slot recent
-
--- the order where a page gave its frame up, if it had one, and was brought anew, if it was
-abbrev pub placed : ℕ → Bool → List ℕ → List ℕ
-placed slot brought recent = if brought then slot ∷ without slot recent else without slot recent
 
 -- whether a slot is in the order
 abbrev pub is_recent : List ℕ → ℕ → Bool

@@ -3,7 +3,7 @@ ghost use Rattle.std.specs.Prelude.{◌≡◌, ◌≤◌, ◌+◌, None, true, f
 ghost use Rattle.std.specs.Borrow.{sem};
 ghost use Rattle.std.specs.Option.{option_copied};
 ghost use Rattle.machine_state.specs.Memory.{page_size};
-ghost use Rattle.guest_pages.specs.Entry.{is_resident, place_marked, place_frame, holds_page, slot_permits, slot_frame, is_in_frame, IsLent, IsZeros, slot_protected, is_on_swap, place_unsaved, slot_unsaved, place_left, slot_left, place_entered, slot_entered, slot_swapped, HasPerms};
+ghost use Rattle.guest_pages.specs.Entry.{is_resident, place_marked, place_frame, holds_page, slot_permits, slot_frame, is_in_frame, IsLent, slot_protected, is_on_swap, place_unsaved, slot_unsaved, place_left, slot_left, place_entered, slot_entered, slot_swapped, HasPerms};
 ghost use Rattle.guest_pages.specs.EntryLends.{LendsPlace, LendsEntry, LendsSlot};
 
 use crate::frame::Frame;
@@ -206,17 +206,6 @@ pub(crate) fn release(slot: &mut Option<Entry>) -> Option<Frame>
             place.into_frame()
         }
         None => None,
-    }
-}
-
-// A page of zeros, in a frame if there is one.
-pub(crate) fn blank(frame: Option<Frame>) -> Place
-    ensures frame { is_resident result ≡ is_some frame }
-    ensures zeros { IsZeros result }
-{
-    match frame {
-        Some(frame) => Place::Resident(frame.cleared(), Mark::Fresh),
-        None => Place::Zeros,
     }
 }
 

@@ -1,5 +1,5 @@
 //! A page's bytes.
-ghost use Rattle.std.specs.Prelude.{◌≡◌, ◌≤◌, ◌+◌, length, slice_range, IfOk, All};
+ghost use Rattle.std.specs.Prelude.{◌≡◌, ◌≤◌, ◌+◌, length, slice_range, IfOk};
 ghost use Rattle.std.specs.Borrow.{sem};
 ghost use Rattle.machine_state.specs.Memory.{page_size};
 ghost use Rattle.guest_pages.specs.FrameLends.{LendsFrame};
@@ -59,14 +59,6 @@ impl Frame {
         ensures whole { length self.now ≡ page_size }
     {
         &self.bytes
-    }
-
-    /// The frame filled with zeros.
-    pub(crate) fn cleared(mut self) -> Frame
-        ensures { All (λ byte. byte ≡ 0) result }
-    {
-        self.bytes.fill(0);
-        self
     }
 
     /// The frame with these bytes.

@@ -1,18 +1,15 @@
 //! The pages of guest memory.
-ghost use Rattle.std.specs.Prelude.{◌≡◌, ◌<◌, ◌≤◌, ◌+◌, ◌-◌, ◌%◌, ◌||◌, ◌&&◌, None, Some, true, is_some, is_none, nat_lt, vec_len, if◌then◌else◌};
+ghost use Rattle.std.specs.Prelude.{◌≡◌, ◌<◌, ◌≤◌, ◌+◌, ◌-◌, ◌%◌, None, Some, true, vec_len, if◌then◌else◌};
 ghost use Rattle.std.specs.Option.{option_map};
 ghost use Rattle.std.specs.Vec.{vec_capacity};
 ghost use Rattle.machine_state.specs.declared.kinds.Miss.TheVariants.{Away};
 ghost use Rattle.machine_state.specs.Memory.{page_size, miss_at, or_else};
 ghost use Rattle.guest_pages.specs.Entry.{is_in_frame};
-ghost use Rattle.guest_pages.specs.Slots.{bucket_of, list_of as home_of, with_last};
+ghost use Rattle.guest_pages.specs.Slots.{bucket_of, list_of as home_of};
 ghost use Rattle.guest_pages.specs.Lists.{among};
 ghost use Rattle.guest_pages.specs.Order.{without};
 
-use crate::entry::{
-    Entry, blank, bring_in, frame_of, grants, holds, lend, on_swap, perms_of, protect, put_away,
-    release, unsaved,
-};
+use crate::entry::{Entry, Place, frame_of, grants, holds, lend, perms_of, protect, release};
 use crate::frame::Frame;
 use crate::lists::{Lists, vacant};
 use crate::order::Order;
@@ -55,12 +52,12 @@ impl Model for Pages {
 }
 
 impl Pages {
-    ghost use Rattle.std.specs.Prelude.{◌≡◌, ◌<◌, ◌≤◌, ◌+◌, ◌/◌, ◌%◌, ◌^◌, ◌↔◌, ◌||◌, ◌&&◌, ℕ, List, length, take, slice_range, slice_index_or, nat_lt, None, Some, MatchResult, MatchOption, OnOk, OnErr, IfOk, IsErr, IsSome};
+    ghost use Rattle.std.specs.Prelude.{◌≡◌, ◌<◌, ◌≤◌, ◌+◌, ◌/◌, ◌%◌, ◌^◌, ◌↔◌, ℕ, List, length, take, slice_range, slice_index_or, None, Some, MatchResult, MatchOption, OnOk, OnErr, IfOk, IsErr, IsSome};
     ghost use Rattle.std.specs.Borrow.{sem};
     ghost use Rattle.machine_state.specs.Memory.{Swap, first_miss, miss_at};
-    ghost use Rattle.guest_pages.specs.Table.{perms_in, blocked, answer_of, in_frame};
-    ghost use Rattle.guest_pages.specs.Pages.{table_of, mapped_count, resident_count, lent};
-    ghost use Rattle.guest_pages.specs.Changes.{AllResident, IsBlank, IsShown, IsWritten, IsMapped, IsUnmapped, IsProtected, IsZeroed, gets_frame};
+    ghost use Rattle.guest_pages.specs.Table.{perms_in, blocked, answer_of};
+    ghost use Rattle.guest_pages.specs.Pages.{table_of, mapped_count, lent};
+    ghost use Rattle.guest_pages.specs.Changes.{IsBlank, IsShown, IsWritten, IsMapped, IsUnmapped, IsProtected, IsZeroed};
     ghost use Rattle.guest_pages.specs.Order.{AreOrdered};
     ghost use Rattle.guest_pages.specs.Together.{AreClean, AreTogether};
     ghost use Rattle.guest_pages.specs.Laws.{AreCounted, HaveSlots, FitMemory};
@@ -73,7 +70,6 @@ impl Pages {
         requires some { 8 ≤ frames }
         requires fit { frames ≤ pages }
         ensures blank { IfOk result (λ new. IsBlank new frames pages) }
-        ensures resident { IfOk result AllResident }
     {
         let slots = vacant(alloc, pages as usize)?;
         let lists = Lists::new(alloc, pages as usize + 1, pages as usize, pages)?;
@@ -316,28 +312,20 @@ impl Pages {
         }
     }
 
-    // Gives slot k to a page of zeros, which is brought where it gets a frame at once. The frame of the page that the slot
-    // held is given up.
+    // Gives slot k to a page of zeros, which is away. The frame of the page that the slot held is given up.
     fn fill(&mut self, k: u32, page: u64, perms: Perms)
         requires can { CanTake self.old.slots page k }
         requires low { page < 0x800000000 }
-        ensures mapped { IsMapped self.old self.new page perms.0 }
-        ensures framed { in_frame (table_of self.new page) ≡ (gets_frame self.old page
-            && (in_frame (table_of self.old page) || nat_lt (resident_count self.old) self.old.frames)) }
-        ensures resident { self.old.frames ≡ length self.old.slots → AllResident self.old → AllResident self.new }
-        ensures room { resident_count self.new ≤ self.new.frames }
+        ensures { IsMapped self.old self.new page perms.0 }
     {
         let buckets = self.slots.len();
-        let whole = self.frames as usize == buckets;
         let slot = &mut self.slots[k as usize];
         let from = list_of(slot, buckets);
-        let at_once = has_frame_at_once(slot, whole);
         give_frame(slot, k, &mut self.free, &mut self.order);
-        let frame = frame_for(k, at_once, &mut self.free, &mut self.order);
         *slot = Some(Entry {
             page,
             perms,
-            place: blank(frame),
+            place: Place::Zeros,
         });
         self.lists.shift(k, from, bucket(page, buckets));
     }
@@ -354,8 +342,8 @@ impl Pages {
         self.lists.shift(k, from, buckets);
     }
 
-    /// Maps the page at the address `addr` as zeros; what was mapped there is gone, and its frame is given up. Where the page
-    /// gets a frame at once it is the page brought last.
+    /// Maps the page at the address `addr` as zeros; what was mapped there is gone, and its frame is given up. The page takes
+    /// no frame until it is entered.
     pub fn map_page(&mut self, addr: u64, perms: Perms) -> Result<(), Full>
         requires page { addr % page_size ≡ 0 }
         requires low { addr < 0x800000000000 }
@@ -363,13 +351,6 @@ impl Pages {
         ensures full { IsErr result ↔ ((table_of self.old (addr / page_size) ≡ None)
             × (mapped_count self.old ≡ length self.old.slots)) }
         ensures err { OnErr result (self.new ≡ self.old) }
-
-        // The page gets a frame at once by `gets_frame`, where one is free once its own was given up.
-        ensures framed { OnOk result (in_frame (table_of self.new (addr / page_size))
-            ≡ (gets_frame self.old (addr / page_size) && (in_frame (table_of self.old (addr / page_size))
-            || nat_lt (resident_count self.old) self.old.frames))) }
-        ensures resident { self.old.frames ≡ length self.old.slots → AllResident self.old → AllResident self.new }
-        ensures room { OnOk result (resident_count self.new ≤ self.new.frames) }
     {
         match self.seat_for(addr / PAGE_SIZE) {
             Some(k) => {
@@ -386,7 +367,6 @@ impl Pages {
         requires low { addr < 0x800000000000 }
         requires mapped { IsSome (table_of self.old (addr / page_size)) }
         ensures protected { IsProtected self.old self.new (addr / page_size) perms.0 }
-        ensures resident { AllResident self.old → AllResident self.new }
     {
         match self.seat(addr / PAGE_SIZE) {
             Some(k) => protect(&mut self.slots[k as usize], perms),
@@ -395,31 +375,24 @@ impl Pages {
     }
 
     /// Unmaps the page at the address `addr`, if it is mapped.
-    #[tactic(auto, using(crate::proofs::Protects::unmapped_resident))]
     pub fn unmap_page(&mut self, addr: u64)
         requires page { addr % page_size ≡ 0 }
         requires low { addr < 0x800000000000 }
         ensures unmapped { IsUnmapped self.old self.new (addr / page_size) }
         ensures absent { table_of self.old (addr / page_size) ≡ None → self.new ≡ self.old }
-        ensures resident { AllResident self.old → AllResident self.new }
     {
         if let Some(k) = self.seat(addr / PAGE_SIZE) {
             self.empty(k, addr / PAGE_SIZE);
         }
     }
 
-    /// Maps the mapped page at the address `addr` anew, as zeros, with its permissions. Its frame is given up, and where it
-    /// gets one at once it is the page brought last.
+    /// Maps the mapped page at the address `addr` anew, as zeros, with its permissions. Its frame is given up, and it takes no
+    /// other until it is entered.
     pub fn zero_page(&mut self, addr: u64)
         requires page { addr % page_size ≡ 0 }
         requires low { addr < 0x800000000000 }
         requires mapped { IsSome (table_of self.old (addr / page_size)) }
         ensures zeroed { IsZeroed self.old self.new (addr / page_size) }
-        ensures framed { in_frame (table_of self.new (addr / page_size))
-            ≡ (gets_frame self.old (addr / page_size) && (in_frame (table_of self.old (addr / page_size))
-            || nat_lt (resident_count self.old) self.old.frames)) }
-        ensures resident { self.old.frames ≡ length self.old.slots → AllResident self.old → AllResident self.new }
-        ensures room { resident_count self.new ≤ self.new.frames }
     {
         match self.seat(addr / PAGE_SIZE) {
             Some(k) => {
@@ -428,18 +401,6 @@ impl Pages {
             }
             None => unreachable!(),
         }
-    }
-}
-
-// Whether a slot's page, once it is mapped as zeros, gets a frame at once where one is free. Until the run brings pages, a
-// page that wasn't mapped does, and so does each page where there are as many frames as pages, so that none is away then.
-// Once the run brings each page, none does.
-fn has_frame_at_once(slot: &Option<Entry>, whole: bool) -> bool
-    ensures { result ≡ (is_none slot.now || whole) }
-{
-    match slot {
-        Some(_) => whole,
-        None => true,
     }
 }
 
@@ -460,27 +421,6 @@ fn give_frame(slot: &mut Option<Entry>, k: u32, free: &mut Vec<Frame>, order: &m
             order.take_out(k);
         }
         None => {}
-    }
-}
-
-// Takes a free frame for slot k, whose page is the one brought last then.
-fn frame_for(k: u32, at_once: bool, free: &mut Vec<Frame>, order: &mut Order) -> Option<Frame>
-    requires { 0 < vec_len free.old → vec_len order.old.slots < vec_capacity order.old.slots }
-    ensures frame { is_some result ≡ (at_once && nat_lt 0 (vec_len free.old)) }
-    ensures count { vec_len free.new + (if is_some result then 1 else 0) ≡ vec_len free.old }
-    ensures capacity { vec_capacity free.new ≡ vec_capacity free.old }
-    ensures order { order.new.slots.items ≡ with_last (is_some result) k order.old.slots.items }
-    ensures order_capacity { vec_capacity order.new.slots ≡ vec_capacity order.old.slots }
-{
-    if !at_once {
-        return None;
-    }
-    match free.pop() {
-        Some(frame) => {
-            order.put(k);
-            Some(frame)
-        }
-        None => None,
     }
 }
 

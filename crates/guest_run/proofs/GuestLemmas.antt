@@ -1,123 +1,324 @@
--- A run of a guest, by that of its machine.
-use Rattle.std.proofs.Common.{◌≡◌, ◌∙◌, ℕ, zero, suc, ◌==◌, Bool, true, false, if◌then◌else◌, Option, Some, None, refl, sym, ap, subst}
+-- Steps and runs of a guest, by the tries of phases and by steps.
+use Rattle.std.proofs.Common.{◌≡◌, ◌∙◌, ℕ, suc, ◌+◌, ◌≤◌, ◌-◌, ◌*◌, if◌then◌else◌, Bool, false, true, is_some, List, Option, Some, None, IsSome, Ok, Err, refl, sym, ap, subst, arith}
+use Rattle.host_edge.specs.declared.outside.HostCall.{HostCall}
+use Rattle.host_edge.specs.Files.{Held}
 use Rattle.machine_state.specs.declared.kinds.GuestEnd.{GuestEnd}
-use Rattle.machine_state.specs.declared.kinds.GuestEnd.TheVariants.{Exit, Killed}
 use Rattle.machine_state.specs.Memory.{Swap}
+use Rattle.machine_state.specs.State.{State}
 use Rattle.machine_state.specs.World.{World}
-use Rattle.core_step.specs.declared.machine.Machine.{Machine}
-use Rattle.core_step.specs.declared.acted.Acted.{Acted}
-use Rattle.core_step.specs.declared.acted.Acted.TheVariants.{Done, Call, Trap, Need}
 use Rattle.core_step.specs.Act.{act}
-use Rattle.guest_run.specs.declared.calls.Stream.{Stream}
-use Rattle.guest_run.specs.declared.calls.Stream.TheVariants.{Output, ErrorOutput}
+use Rattle.linux_calls.specs.Outside.{Streams}
 use Rattle.guest_run.specs.declared.ends.RunEnd.{RunEnd}
-use Rattle.guest_run.specs.GuestValue.{GuestValue}
-use Rattle.guest_run.specs.Call.{Ran, goes_on, ends, rax, write_to, called}
-use Rattle.guest_run.specs.Step.{step, after_act}
-use Rattle.guest_run.specs.Run.{run, run_on}
-use Rattle.guest_run.specs.Outside.{Files, Outside, Leaves}
-use Rattle.guest_run.specs.Trail.{FailsOn, trail_on}
-use Rattle.guest_run.specs.Following.{Beside, HasRunSignal, Runs, RunsAs, SinkPair, guest_end, is_stopped, run_end, stopped_by}
-use Rattle.guest_run.specs.Guests.{GuestRuns, GuestRunsAs, GuestStandsFor, IsGuest, regions_of}
-use Rattle.guest_run.proofs.RunLemmas.{course-none, run-goes_on, run-ends, run-none, stopped_by-end}
+use Rattle.guest_run.specs.declared.guest.Guest.{Guest}
+use Rattle.guest_run.specs.declared.guest.Phase.{Phase}
+use Rattle.guest_run.specs.declared.guest.Phase.TheVariants.{Fetch}
+use Rattle.guest_run.specs.declared.running.Tried.TheVariants.{Again, Done}
+use Rattle.guest_run.specs.Step.{Ran, step, calls_in_step}
+use Rattle.guest_run.specs.Outside.{Files, IsOutside, Leaves}
+use Rattle.guest_run.specs.Trail.{FailsIn, piece_of}
+use Rattle.guest_run.specs.Guests.{Around, StandsFor, IsWithin, IsBetween, PhaseFits}
+use Rattle.guest_run.specs.Loads.{units_after, units_in_run, units_in_step, units_on}
+use Rattle.guest_run.specs.Units.{loads_left, phase_units}
+use Rattle.guest_run.specs.Following.{Course, Follows, HasSignal, IsGuest, Leads, LoadsAtMost, Makes, Runs, RunsTo, Stepped, Steps, Tries, phase_calls, phase_rest, run_end, step_rest, steps_made}
+use Rattle.guest_run.proofs.RunLemmas.{IsSoFar, no_end, ended-runs, loads-step, runs-budget, runs-ends, runs-stopped, so_far-start, so_far-step, stopped_by-end, units-none}
+use Rattle.guest_run.proofs.StepLemmas.{state-is}
+use Rattle.guest_run.proofs.TryLemmas.{again-here, course-none, files-same, files-then, some-held}
 
--- ---- no step changes the regions or the heap
-abbrev Keeps : World → Ran → Type 0
-Keeps w to = regions_of to.world ≡ regions_of w
-
-write-keeps : (stream : Option Stream) (addr count : ℕ) (w : World) → Keeps w (goes_on (write_to stream addr count w))
-write-keeps (Some Output) addr count w = refl
-write-keeps (Some ErrorOutput) addr count w = refl
-write-keeps None addr count w = refl
-
-by_choice : (P : Ran → Type 0) (b : Bool) (x y : Ran) → P x → P y → P (if b then x else y)
-by_choice P true x y h k = h
-by_choice P false x y h k = k
-
-call-keeps : (w : World) → Keeps w (called w)
-unfolding called
-call-keeps w =
-    by_choice (Keeps w) (rax w.state == 1) _ _ (write-keeps _ _ _ w)
-    (by_choice (Keeps w) (rax w.state == 60) _ _ refl refl)
-
-act-keeps : (acted : Acted) (w : World) → Keeps w (after_act acted w)
-act-keeps Done w = refl
-act-keeps Call w = call-keeps w
-act-keeps (Trap fault) w = refl
-act-keeps (Need slot) w = refl
-
-step-keeps : (w : World) → Keeps w (step w)
-unfolding step
-step-keeps w = act-keeps (act w.state).acted (record w { state = (act w.state).state })
-
-run-keeps : (w : World) (steps : ℕ) → Keeps w (run w steps)
-run-keeps w zero = rw (run-none w) refl
-run-keeps w (suc steps) = by_end (step w).end refl (run-keeps (step w).world steps)
-  where
-    by_end : (end : Option GuestEnd) → (step w).end ≡ end → Keeps (step w).world (run (step w).world steps) → Keeps w (run w (suc steps))
-    by_end None is later = rw (run-goes_on w steps is) (later ∙ step-keeps w)
-    by_end (Some end) is later = rw (run-ends w steps end is) (step-keeps w)
-
--- ---- a guest that has ended
-run_on-ended : (w : World) (was : Option GuestEnd) (end : GuestEnd) (steps : ℕ) → was ≡ Some end → run_on w was steps ≡ ends end w
-run_on-ended w None end steps is = cc
-run_on-ended w (Some other) end steps is = let same : other ≡ end = cc in ap (λ (e : GuestEnd). ends e w) same
-
-pub ended-runs : (steps : ℕ) (guest : GuestValue) (end : GuestEnd) (on : SinkPair) → guest.end ≡ Some end → IsGuest guest
-    → GuestRunsAs steps guest guest on on (run_end (Some end))
-ended-runs steps guest end on is is_guest = record {
-  follows = λ swap held left files from stands.
-      let stays : run_on from guest.end steps ≡ ends end from = run_on-ended from guest.end end steps is in
-      record {
-        end = λ own. (is ∙ sym (ap (λ (r : Ran). r.end) stays), ap run_end (sym is));
-        whole = λ own. subst (λ (r : Ran). GuestStandsFor (Beside held left on) swap guest files r.world) (sym stays) stands;
-        failed = λ call h. absurd (let none : None ≡ Some call = sym (stopped_by-end end) ∙ ap stopped_by h in cc);
-      };
-  course = rw (stopped_by-end end) (course-none on);
-  signal = subst (λ (e : Option GuestEnd). HasRunSignal (run_end e)) is is_guest.signal;
-  is_guest = is_guest;
+pub is-within : (g : Guest) (a : Around) → IsBetween g a → IsWithin g a
+is-within g a between = record {
+  phase = subst (λ (p : Phase). PhaseFits g p) (sym between.phase) between.begins;
+  fit = between.fit;
+  pages = between.pages;
 }
 
--- ---- a guest that hasn't
-run_end-guest_end : (result : RunEnd) → is_stopped result ≡ false → result ≡ run_end (guest_end result)
-run_end-guest_end (RunEnd.Exit code) own = refl
-run_end-guest_end (RunEnd.Killed signal) own = refl
-run_end-guest_end RunEnd.Budget own = refl
-run_end-guest_end (RunEnd.Host call) own = cc
+pub tries-start : (g : Guest) (a : Around) → IsBetween g a → Tries g g a a (Ok Again)
+tries-start g a between =
+    again-here g g a (record { end = refl; failed = refl }) (λ swap from stands. (stands, refl, refl)) (λ swap. omega arith) (is-within g a between) refl
 
-pub guest_end-run_end : (end : Option GuestEnd) → guest_end (run_end end) ≡ end
-guest_end-run_end None = refl
-guest_end-run_end (Some (Exit code)) = refl
-guest_end-run_end (Some (Killed signal)) = refl
+-- ---- tries that complete a step, or stop in it
+module _ (g new : Guest) (before after : Around) (phase : g.phase ≡ Fetch) where
+  rest-is : (from : World) → step_rest g from ≡ step from
+  rest-is from = ap (λ (p : Phase). phase_rest p g.progress from) phase
 
-signal-guest : (result : RunEnd) → HasRunSignal result → HasRunSignal (run_end (guest_end result))
-signal-guest (RunEnd.Exit code) h = tt
-signal-guest (RunEnd.Killed signal) h = h
-signal-guest RunEnd.Budget h = tt
-signal-guest (RunEnd.Host call) h = tt
+  calls-is : (from : World) → phase_calls g.phase from ≡ calls_in_step from
+  calls-is from = ap (λ (p : Phase). phase_calls p from) phase
 
-pub machine-runs : (steps : ℕ) (old : GuestValue) (machine : Machine) (before after : SinkPair) (result : RunEnd) → old.end ≡ None
-    → RunsAs steps old.machine machine before after result
-    → GuestRunsAs steps old (record { machine = machine; regions = old.regions; end = guest_end result }) before after result
-machine-runs steps old machine before after result goes runs = record {
-  follows = λ swap held left files from stands.
-      let ran = runs.follows swap held left files from stands.machine in
-      rw goes (record {
-        end = λ own. (ap guest_end (ran.end own) ∙ guest_end-run_end (run from steps).end, run_end-guest_end result own);
-        whole = λ own. record { machine = ran.whole own; regions = stands.regions ∙ sym (run-keeps from steps) };
-        failed = ran.failed;
-      });
-  course = runs.course;
-  signal = runs.signal;
-  is_guest = record { resident = runs.resident; signal = signal-guest result runs.signal };
+  -- the pages that are brought for a step
+  step-loads : (held : Swap) (from : World) → StandsFor held g before.streams from → loads_left held g ≤ 4 * units_in_step from
+  unfolding loads_left units_in_step
+  step-loads held from stands =
+      let units : phase_units g.phase held g ≡ 2 + units_after (act from.state) =
+      ap (λ (p : Phase). phase_units p held g) phase ∙ ap (λ (s : State). 2 + units_after (act s)) (state-is held g before.streams from stands) in
+      omega (arith, units)
+
+  pub step-done : (end : Option GuestEnd) → Tries g new before after (Ok (Done end)) → Steps g new before after (Ok end)
+  step-done end tries = record {
+    follows = record {
+      keeps = tries.follows.keeps;
+      leads = λ held now is is' told from stands.
+          let at = tries.follows.leads held now is is' told from stands in
+          record {
+            end = at.0 ∙ ap (λ (to : Ran). to.end) (rest-is from);
+            whole = subst (λ (to : Ran). StandsFor now.page new after.streams to.world) (rest-is from) at.1;
+            failed = tt;
+          };
+    };
+    between = tries.fits.0;
+    counted = tries.fits.1;
+    loads = record {
+      keeps = tries.follows.keeps;
+      leads = λ held now is is' told from stands.
+          let most = tries.loads held now is is' in
+          let all = step-loads held.page from stands in
+          omega (arith, most, all);
+    };
+    course = tries.course;
+    signal = tries.signal;
+    end = tries.end;
+  }
+
+  pub step-stopped : (call : HostCall) → Tries g new before after (Err call) → Steps g new before after (Err call)
+  step-stopped call tries = record {
+    follows = record {
+      keeps = tries.follows.keeps;
+      leads = λ held now is is' told from stands.
+          let at = tries.follows.leads held now is is' told from stands in
+          let P : Ran → List HostCall → Type 0 = λ to calls. Leaves (IsOutside after.held after.streams) (FailsIn (piece_of held.file from to calls) call) in
+          record {
+            end = tt;
+            whole = tt;
+            failed = subst (λ (calls : List HostCall). P (step from) calls) (calls-is from) (subst (λ (to : Ran). P to (phase_calls g.phase from)) (rest-is from) at);
+          };
+    };
+    between = tt;
+    counted = let still = tries.fits in omega (arith, still);
+    loads = record {
+      keeps = tries.follows.keeps;
+      leads = λ held now is is' told from stands.
+          let most = tries.loads held now is is' in
+          let all = step-loads held.page from stands in
+          omega (arith, most, all);
+    };
+    course = tries.course;
+    signal = tt;
+    end = tries.end;
+  }
+
+-- ---- a run so far
+abbrev pub RanSoFar : (old now : Guest) → (before after : Around) → (all rest : ℕ) → Type 0
+RanSoFar old now before after all rest = Leads old now before after (λ Stands Told files from. IsSoFar Stands files from all rest old.pager.loads now.pager.loads)
+
+pub ran-start : (g : Guest) (a : Around) (all : ℕ) → RanSoFar g g a a all all
+ran-start g a all = record {
+  keeps = files-same a.held;
+  leads = λ held now is is' told from stands.
+      let same : held ≡ now = some-held held now (sym is ∙ is') in
+      subst (λ (h : Held). IsSoFar (StandsFor h.page g a.streams) held.file from all all g.pager.loads g.pager.loads) same (so_far-start _ held.file from all g.pager.loads stands);
 }
 
--- ---- what a run of a guest that hadn't ended says of its machine
-pub runs-machine : (Stands : Outside → Type 0) (swap : Swap) (old new : GuestValue) (files : Files) (from : World) (steps : ℕ) (result : RunEnd)
-    → old.end ≡ None → GuestRuns Stands swap old new files from steps result → Runs Stands swap new.machine files from steps result
-runs-machine Stands swap old new files from steps result goes ran =
-    record {
-      end = λ own. (ran.end own).1 ∙ ap run_end (subst (λ (e : Option GuestEnd). new.end ≡ (run_on from e steps).end) goes (ran.end own).0);
-      whole = λ own. (subst (λ (e : Option GuestEnd). GuestStandsFor Stands swap new files (run_on from e steps).world) goes (ran.whole own)).machine;
-      failed = λ call is. subst (λ (e : Option GuestEnd). Leaves Stands (FailsOn (trail_on files from e steps) call)) goes (ran.failed call is);
-    }
+module _ (old mid new : Guest) (before between after : Around) (all rest left : ℕ) (more : rest ≡ suc left) (so_far : RanSoFar old mid before between all rest)
+    (course : Course before between None) where
+  -- what a step leads to from the world that stands so far
+  abbrev Turned : Stepped → (files : Files) → Held → (now : Held) → Type 0
+  Turned result files mid_held now =
+      (w : World) → StandsFor mid_held.page mid between.streams w
+      → Follows (StandsFor now.page new after.streams) (IsOutside after.held after.streams) files w (step w) (calls_in_step w) result
+
+  turned : (result : Stepped) → Steps mid new between after result → (held now : Held) (is : before.held ≡ Some held) → after.held ≡ Some now
+      → IsSome before.streams.left → Turned result held.file (so_far.keeps.related held is).0 now
+  turned result steps held now is is' told w stands =
+      let mid_held = so_far.keeps.related held is in
+      let still : IsSome between.streams.left = course.streams.left ∙ told in
+      subst (λ (files : Files). Follows (StandsFor now.page new after.streams) (IsOutside after.held after.streams) files w (step w) (calls_in_step w) result) mid_held.2
+      (steps.follows.leads mid_held.0 now mid_held.1 is' still w stands)
+
+  -- the pages that a step brings
+  few : (result : Stepped) → Steps mid new between after result → (held now : Held) (is : before.held ≡ Some held) → after.held ≡ Some now → IsSome before.streams.left
+      → (w : World) → StandsFor (so_far.keeps.related held is).0.page mid between.streams w → new.pager.loads ≤ mid.pager.loads + 4 * units_in_step w
+  few result steps held now is is' told w stands =
+      let mid_held = so_far.keeps.related held is in
+      let still : IsSome between.streams.left = course.streams.left ∙ told in
+      steps.loads.leads mid_held.0 now mid_held.1 is' still w stands
+
+  pub ran-loads : (result : Stepped) → Steps mid new between after result → LoadsAtMost old new before after (λ from. units_in_run from (all - rest + 1))
+  ran-loads result steps = record {
+    keeps = files-then before.held between.held after.held so_far.keeps steps.follows.keeps;
+    leads = λ held now is is' told from stands.
+        let mid_held = so_far.keeps.related held is in
+        rw more (loads-step _ (StandsFor now.page new after.streams) (IsOutside after.held after.streams) held.file from all rest left old.pager.loads mid.pager.loads more
+        (so_far.leads held mid_held.0 is mid_held.1 told from stands) new.pager.loads (few result steps held now is is' told));
+  }
+
+  pub ran-on : Steps mid new between after (Ok None) → RanSoFar old new before after all left
+  ran-on steps = record {
+    keeps = files-then before.held between.held after.held so_far.keeps steps.follows.keeps;
+    leads = λ held now is is' told from stands.
+        let mid_held = so_far.keeps.related held is in
+        so_far-step _ _ (IsOutside after.held after.streams) held.file from all rest left old.pager.loads mid.pager.loads more
+        (so_far.leads held mid_held.0 is mid_held.1 told from stands) new.pager.loads (few (Ok None) steps held now is is' told)
+        (turned (Ok None) steps held now is is' told);
+  }
+
+  pub ran-ends : (end : GuestEnd) → Steps mid new between after (Ok (Some end))
+      → Leads old new before after (λ Stands Told files from. RunsTo Stands Told files from no_end all (Some end) (run_end (Some end)))
+  ran-ends end steps = record {
+    keeps = files-then before.held between.held after.held so_far.keeps steps.follows.keeps;
+    leads = λ held now is is' told from stands.
+        let mid_held = so_far.keeps.related held is in
+        runs-ends _ _ (IsOutside after.held after.streams) held.file from all rest left old.pager.loads mid.pager.loads more (so_far.leads held mid_held.0 is mid_held.1 told from stands) end
+        (turned (Ok (Some end)) steps held now is is' told);
+  }
+
+  pub ran-stopped : (call : HostCall) (was : Option GuestEnd) → Steps mid new between after (Err call)
+      → Leads old new before after (λ Stands Told files from. RunsTo Stands Told files from no_end all was (RunEnd.Host call))
+  ran-stopped call was steps = record {
+    keeps = files-then before.held between.held after.held so_far.keeps steps.follows.keeps;
+    leads = λ held now is is' told from stands.
+        let mid_held = so_far.keeps.related held is in
+        runs-stopped _ _ (IsOutside after.held after.streams) held.file from all rest left old.pager.loads mid.pager.loads more (so_far.leads held mid_held.0 is mid_held.1 told from stands) call was
+        (turned (Err call) steps held now is is' told);
+  }
+
+pub ran-budget : (old now : Guest) (before after : Around) (all rest : ℕ) → rest ≡ 0 → RanSoFar old now before after all rest
+    → Leads old now before after (λ Stands Told files from. RunsTo Stands Told files from no_end all no_end RunEnd.Budget)
+ran-budget old now before after all rest none so_far = record {
+  keeps = so_far.keeps;
+  leads = λ held h is is' told from stands. runs-budget _ (IsOutside after.held after.streams) held.file from all rest old.pager.loads now.pager.loads none (so_far.leads held h is is' told from stands);
+}
+
+-- ---- a run that is over
+-- the guest with its end, and whether a call failed
+abbrev pub marked : Guest → Option GuestEnd → Bool → Guest
+marked g end failed = record g { end = end; failed = failed }
+
+marked-stands : (swap : Swap) (g : Guest) (end : Option GuestEnd) (failed : Bool) (s : Streams) (w : World) → StandsFor swap g s w
+    → StandsFor swap (marked g end failed) s w
+marked-stands swap g end failed s w stands = record { parts = stands.parts; streams_are = stands.streams_are }
+
+marked-between : (g : Guest) (end : Option GuestEnd) (failed : Bool) (a : Around) → IsBetween g a → IsBetween (marked g end failed) a
+marked-between g end failed a b = record { phase = b.phase; begins = b.begins; fit = b.fit; pages = b.pages }
+
+marked-leads : (old new : Guest) (end : Option GuestEnd) (failed : Bool) (before after : Around) (was is : Option GuestEnd) (steps : ℕ) (result : RunEnd)
+    → Leads old new before after (λ Stands Told files from. RunsTo Stands Told files from was steps is result)
+    → Leads old (marked new end failed) before after (λ Stands Told files from. RunsTo Stands Told files from was steps is result)
+marked-leads old new end failed before after was is steps result ran = record {
+  keeps = ran.keeps;
+  leads = λ held now h h' told from stands.
+      let at = ran.leads held now h h' told from stands in
+      record { end = at.end; whole = λ own. marked-stands now.page new end failed after.streams _ (at.whole own); failed = at.failed };
+}
+
+marked-loads : (old new : Guest) (end : Option GuestEnd) (failed : Bool) (before after : Around) (units : World → ℕ) → LoadsAtMost old new before after units
+    → LoadsAtMost old (marked new end failed) before after units
+marked-loads old new end failed before after units few = record { keeps = few.keeps; leads = λ held now h h' told from stands. few.leads held now h h' told from stands }
+
+-- the steps that were made
+made-ended : (old new : Guest) (end : GuestEnd) → steps_made old new (run_end (Some end)) ≡ new.machine.steps - old.machine.steps
+made-ended old new end =
+    let made : Option HostCall → ℕ = λ stopped. new.machine.steps - old.machine.steps + (if is_some stopped then 1 else 0) in
+    ap made (stopped_by-end end) ∙ omega arith
+
+no_budget : (end : GuestEnd) → run_end (Some end) ≡ RunEnd.Budget → ⊥
+no_budget (GuestEnd.Exit code) h = cc
+no_budget (GuestEnd.Killed signal) h = cc
+
+makes-ended : (steps : ℕ) (old new : Guest) (end : GuestEnd) → old.machine.steps ≤ new.machine.steps → new.machine.steps - old.machine.steps ≤ steps
+    → Makes steps old new (run_end (Some end))
+makes-ended steps old new end later most = record {
+  later = later;
+  most = let made = made-ended old new end in omega (arith, made, most);
+  all = λ budget. absurd (no_budget end budget);
+}
+
+-- where the guest stood before its end
+module _ (old new : Guest) (before after : Around) (all : ℕ) (goes : old.end ≡ no_end) where
+  abbrev LeadsTo : Option GuestEnd → Option GuestEnd → RunEnd → Type 0
+  LeadsTo was is result = Leads old new before after (λ Stands Told files from. RunsTo Stands Told files from was all is result)
+
+  abbrev Few : (made : ℕ) → Type 0
+  Few made = LoadsAtMost old new before after (λ from. units_in_run from made)
+
+  few-on : (made all : ℕ) → made ≡ all → Few made → LoadsAtMost old new before after (λ from. units_on from old.end all)
+  few-on made all same few = record {
+    keeps = few.keeps;
+    leads = λ held now h h' told from stands.
+        subst (λ (was : Option GuestEnd). new.pager.loads ≤ old.pager.loads + 4 * units_on from was all) (sym goes)
+        (subst (λ (n : ℕ). new.pager.loads ≤ old.pager.loads + 4 * units_in_run from n) same (few.leads held now h h' told from stands));
+  }
+
+  pub run-ended : (end : GuestEnd) → LeadsTo no_end (Some end) (run_end (Some end)) → Few (new.machine.steps - old.machine.steps)
+      → old.machine.steps ≤ new.machine.steps → new.machine.steps - old.machine.steps ≤ all → IsBetween new after → new.failed ≡ false → HasSignal (Some end)
+      → Course before after None → Runs all old (marked new (Some end) new.failed) before after (run_end (Some end))
+  run-ended end ran few later most between works signal course = record {
+    follows = marked-leads old new (Some end) new.failed before after old.end (Some end) all (run_end (Some end))
+        (subst (λ (was : Option GuestEnd). LeadsTo was (Some end) (run_end (Some end))) (sym goes) ran);
+    guest = λ own. record { between = marked-between new (Some end) new.failed after between; works = works; signal = signal };
+    failed = works ∙ sym (ap (λ (o : Option HostCall). is_some o) (stopped_by-end end));
+    course = rw (stopped_by-end end) course;
+    makes = makes-ended all old (marked new (Some end) new.failed) end later most;
+    loads = marked-loads old new (Some end) new.failed before after _
+        (few-on (new.machine.steps - old.machine.steps) (steps_made old new (run_end (Some end))) (sym (made-ended old new end)) few);
+  }
+
+  pub run-stopped : (call : HostCall) → LeadsTo no_end new.end (RunEnd.Host call) → Few (new.machine.steps - old.machine.steps + 1)
+      → old.machine.steps ≤ new.machine.steps → new.machine.steps - old.machine.steps + 1 ≤ all → Course before after (Some call)
+      → Runs all old (marked new new.end true) before after (RunEnd.Host call)
+  run-stopped call ran few later most course = record {
+    follows = marked-leads old new new.end true before after old.end new.end all (RunEnd.Host call)
+        (subst (λ (was : Option GuestEnd). LeadsTo was new.end (RunEnd.Host call)) (sym goes) ran);
+    guest = λ own. cc;
+    failed = refl;
+    course = course;
+    makes = record { later = later; most = most; all = λ budget. cc };
+    loads = marked-loads old new new.end true before after _ (few-on (new.machine.steps - old.machine.steps + 1) (new.machine.steps - old.machine.steps + 1) refl few);
+  }
+
+  pub run-budget : new.end ≡ no_end → LeadsTo no_end no_end RunEnd.Budget → Few all → old.machine.steps ≤ new.machine.steps
+      → new.machine.steps - old.machine.steps ≡ all → IsGuest new after → Course before after None → Runs all old new before after RunEnd.Budget
+  run-budget still ran few later whole guest course = record {
+    follows = subst (λ (was : Option GuestEnd). LeadsTo was new.end RunEnd.Budget) (sym goes)
+        (subst (λ (is : Option GuestEnd). LeadsTo no_end is RunEnd.Budget) (sym still) ran);
+    guest = λ own. guest;
+    failed = guest.works;
+    course = course;
+    makes = record { later = later; most = omega (arith, whole); all = λ budget. omega (arith, whole) };
+    loads = few-on all (new.machine.steps - old.machine.steps + 0) (omega (arith, whole)) few;
+  }
+
+pub ran-loads_so_far : (old now : Guest) (before after : Around) (all rest : ℕ) → RanSoFar old now before after all rest
+    → LoadsAtMost old now before after (λ from. units_in_run from (all - rest))
+ran-loads_so_far old now before after all rest so_far = record {
+  keeps = so_far.keeps;
+  leads = λ held h is is' told from stands.
+      let here = so_far.leads held h is is' told from stands in
+      let few = here.few 0 in
+      let none = units-none here.now in
+      let count : all - rest + 0 ≡ all - rest = omega arith in
+      subst (λ (n : ℕ). now.pager.loads ≤ old.pager.loads + 4 * units_in_run from n) count (omega (arith, few, none));
+}
+
+pub loads-made : (old new : Guest) (before after : Around) (made all : ℕ) → made ≡ all → LoadsAtMost old new before after (λ from. units_in_run from made)
+    → LoadsAtMost old new before after (λ from. units_in_run from all)
+loads-made old new before after made all same few = record {
+  keeps = few.keeps;
+  leads = λ held now h h' told from stands.
+      subst (λ (n : ℕ). new.pager.loads ≤ old.pager.loads + 4 * units_in_run from n) same (few.leads held now h h' told from stands);
+}
+
+-- a guest that has ended
+pub ended-guest : (steps : ℕ) (g : Guest) (end : GuestEnd) (a : Around) → g.end ≡ Some end → IsGuest g a → Runs steps g g a a (run_end (Some end))
+ended-guest steps g end a is guest = record {
+  follows = record {
+    keeps = files-same a.held;
+    leads = λ held now is_held is' told from stands.
+        let same : held ≡ now = some-held held now (sym is_held ∙ is') in
+        subst (λ (h : Held). RunsTo (StandsFor h.page g a.streams) (IsOutside a.held a.streams) held.file from g.end steps g.end (run_end (Some end))) same
+        (subst (λ (o : Option GuestEnd). RunsTo (StandsFor held.page g a.streams) (IsOutside a.held a.streams) held.file from o steps o (run_end (Some end))) (sym is)
+        (ended-runs _ _ held.file from end steps stands));
+  };
+  guest = λ own. guest;
+  failed = guest.works ∙ sym (ap (λ (o : Option HostCall). is_some o) (stopped_by-end end));
+  course = rw (stopped_by-end end) (course-none a);
+  makes = makes-ended steps g g end (omega arith) (omega arith);
+  loads = record { keeps = files-same a.held; leads = λ held now is_held is' told from stands. omega arith };
+}

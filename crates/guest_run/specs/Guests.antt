@@ -1,44 +1,79 @@
--- A guest stands for a world, and how a run of it follows the written machine.
-use Rattle.std.specs.Prelude.{◌≡◌, ℕ, false, List, Option}
-use Rattle.host_edge.specs.declared.outside.HostCall.{HostCall}
-use Rattle.host_edge.specs.Files.{Held}
+-- A guest, what stands around it, and the world that they stand for.
+use Rattle.std.specs.Prelude.{◌≡◌, ℕ, ◌≤◌, List, Option}
 use Rattle.machine_state.specs.Memory.{Swap}
 use Rattle.machine_state.specs.World.{World}
-use Rattle.guest_pages.specs.Changes.{AllResident}
-use Rattle.region_map.specs.Calls.{RegionsValue}
-use Rattle.guest_run.specs.declared.ends.RunEnd.{RunEnd}
-use Rattle.guest_run.specs.GuestValue.{GuestValue}
-use Rattle.guest_run.specs.Run.{run_on}
-use Rattle.guest_run.specs.Outside.{Files, Outside, Leaves}
-use Rattle.guest_run.specs.Trail.{FailsOn, trail_on}
-use Rattle.guest_run.specs.Following.{EachSwap, StandsFor, SinkPair, Beside, Course, HasRunSignal, run_end, stopped_by, is_stopped}
+use Rattle.host_edge.specs.Causes.{Counts}
+use Rattle.host_edge.specs.Files.{Held}
+use Rattle.swap_pager.specs.Paging.{CanPage}
+use Rattle.form_scan.specs.Shaped.{most_bytes}
+use Rattle.x_decode.specs.Seeing.{IsDecoded}
+use Rattle.linux_calls.specs.declared.kinds.Stage.TheVariants.{Start}
+use Rattle.linux_calls.specs.Outside.{Streams, AreTold, standing_in, streams}
+use Rattle.linux_calls.specs.View.{View, FitParts, with_parts}
+use Rattle.linux_calls.specs.Waiting.{CanGoOn}
+use Rattle.guest_run.specs.declared.guest.Guest.{Guest}
+use Rattle.guest_run.specs.declared.guest.Phase.{Phase}
+use Rattle.guest_run.specs.declared.guest.Phase.TheVariants.{Fetch, Perform, Answer}
+use Rattle.guest_run.specs.Tally.{Tally, tally}
 
--- the regions of a world, and its heap
-abbrev pub regions_of : World → RegionsValue
-regions_of world = record { regions = world.regions; heap = world.heap_start; at = world.break_at }
+-- ---- what stands around a guest: what its host, its source and its two sinks tell, and how often their calls have failed
+pub record Around : Type 0 where
+  pub held : Option Held
+  pub opened : ℕ
+  pub streams : Streams
+  pub tally : Tally
 
--- a guest, and what stands on the outside as far as it is told, stand for a world, where the swap holds this
-pub record GuestStandsFor (Stands : Outside → Type 0) (swap : Swap) (guest : GuestValue) (files : Files) (world : World) : Type 0 where
-  pub machine : StandsFor Stands swap guest.machine files world
-  pub regions : guest.regions ≡ regions_of world
+abbrev pub around : (held : Option Held) → (opened : ℕ) → Counts → (left : Option (List ℕ)) → (take : ℕ) → (out : Option (List ℕ)) → (puts : ℕ)
+    → (err : Option (List ℕ)) → (err_puts : ℕ) → Around
+around held opened counts left take out puts err err_puts = record {
+  held = held;
+  opened = opened;
+  streams = streams left out err;
+  tally = tally counts take puts err_puts;
+}
 
--- a guest as it is between two runs: its mapped pages are in frames, and one that was killed was so by one of Linux's 64 signals
-pub record IsGuest (guest : GuestValue) : Type 0 where
-  pub resident : AllResident guest.machine.pages
-  pub signal : HasRunSignal (run_end guest.end)
+-- ---- the world that a guest stands for
+-- what a system call sees of a guest
+abbrev pub view_in : Guest → View
+view_in g = record {
+  gprs = g.machine.gprs;
+  fs = g.machine.fs;
+  gs = g.machine.gs;
+  pages = g.machine.pages;
+  regions = g.regions;
+  files = g.files;
+  random = g.random;
+  progress = g.progress;
+  steps = g.machine.steps;
+}
 
--- so many steps were run as the written machine runs them, unless the guest had ended before, or a call failed in one of them
-pub record GuestRuns (Stands : Outside → Type 0) (swap : Swap) (old new : GuestValue) (files : Files) (from : World) (steps : ℕ) (result : RunEnd) : Type 0 where
-  pub end : is_stopped result ≡ false → (new.end ≡ (run_on from old.end steps).end) × (result ≡ run_end new.end)
-  pub whole : is_stopped result ≡ false → GuestStandsFor Stands swap new files (run_on from old.end steps).world
-  pub failed : (call : HostCall) → result ≡ RunEnd.Host call → Leaves Stands (FailsOn (trail_on files from old.end steps) call)
+-- a world with the parts of a guest in their places, where the swap holds this
+abbrev pub with_guest : Swap → Guest → World → World
+with_guest swap g w =
+    with_parts swap (view_in g)
+    (record w { state = record w.state { flags = g.machine.flags; rip = g.machine.rip; extended = g.machine.vec } })
 
--- what a run of a guest leads to from each world that the guest stands for, whatever the host and the source tell, and its course on
--- the sinks
-pub record GuestRunsAs (steps : ℕ) (old new : GuestValue) (before after : SinkPair) (result : RunEnd) : Type 0 where
-  pub follows : EachSwap (λ swap. (held : Option Held) (left : Option (List ℕ)) (files : Files) (from : World)
-      → GuestStandsFor (Beside held left before) swap old files from
-      → GuestRuns (Beside held left after) swap old new files from steps result)
-  pub course : Course before after (stopped_by result)
-  pub signal : HasRunSignal result
-  pub is_guest : IsGuest new
+-- a guest and three streams stand for a world: with what they hold in its place it is the same
+pub record StandsFor (swap : Swap) (g : Guest) (s : Streams) (world : World) : Type 0 where
+  pub parts : with_guest swap g world ≡ world
+  pub streams_are : AreTold s (standing_in world)
+
+-- ---- a guest as it can be
+-- where a step stands: an instruction that is performed was decoded, and a call that is answered can go on
+abbrev pub PhaseFits : Guest → Phase → Type 0
+PhaseFits g Fetch = g.progress.stage ≡ Start
+PhaseFits g (Perform d len) = (g.progress.stage ≡ Start) × IsDecoded d.fields d × (1 ≤ len) × (len ≤ most_bytes)
+PhaseFits g Answer = CanGoOn (view_in g)
+
+-- a guest within a step
+pub record IsWithin (g : Guest) (a : Around) : Type 0 where
+  pub phase : PhaseFits g g.phase
+  pub fit : FitParts (view_in g)
+  pub pages : CanPage g.machine.pages a.held a.opened
+
+-- a guest between two steps
+pub record IsBetween (g : Guest) (a : Around) : Type 0 where
+  pub phase : g.phase ≡ Fetch
+  pub begins : g.progress.stage ≡ Start
+  pub fit : FitParts (view_in g)
+  pub pages : CanPage g.machine.pages a.held a.opened

@@ -2,8 +2,7 @@
 use Rattle.std.specs.Prelude.{ℕ, zero, suc, Option, Some, None}
 use Rattle.machine_state.specs.declared.kinds.GuestEnd.{GuestEnd}
 use Rattle.machine_state.specs.World.{World}
-use Rattle.guest_run.specs.Call.{Ran, goes_on, ends}
-use Rattle.guest_run.specs.Step.{step}
+use Rattle.guest_run.specs.Step.{Ran, goes_on, ends, step}
 
 -- at most so many steps
 unfoldable pub run : World → ℕ → Ran

@@ -1,11 +1,11 @@
 -- The trail: the pieces of work that lead from one outside to another, and what may stand where a call failed in one of them.
-use Rattle.std.specs.Prelude.{◌≡◌, ◌≢◌, ℕ, zero, suc, List, [], ◌∷◌, ◌++◌, Contains, slice_get, Option, Some, None}
+use Rattle.std.specs.Prelude.{◌≡◌, ◌≢◌, ℕ, zero, suc, List, [], ◌∷◌, Contains, slice_get, Option, Some, None}
 use Rattle.machine_state.specs.declared.kinds.GuestEnd.{GuestEnd}
 use Rattle.host_edge.specs.declared.outside.HostCall.{HostCall}
 use Rattle.machine_state.specs.World.{World}
-use Rattle.guest_run.specs.Call.{Ran}
-use Rattle.guest_run.specs.Step.{step, calls_in_step}
-use Rattle.guest_run.specs.Outside.{Files, Outside, outside}
+use Rattle.linux_calls.specs.Outside.{Between}
+use Rattle.guest_run.specs.Step.{Ran, step, calls_in_step}
+use Rattle.guest_run.specs.Outside.{Files, Outside, outside, standing_on}
 
 -- a piece of work: what stands before and after it, the calls on the outside that are made in it, which are those that may fail
 -- there, and the path of the file that it stores, if it stores one
@@ -22,33 +22,16 @@ HangTogether from [] to = to ≡ from
 HangTogether from (piece ∷ rest) to = (piece.before ≡ from) × HangTogether piece.after rest to
 
 -- ---- a call that failed
--- `longer` is `xs` with something behind it
-abbrev pub Extends : List ℕ → List ℕ → Type 0
-Extends xs longer = (more : List ℕ) × (longer ≡ xs ++ more)
-
--- `xs` is something and then `rest`
-abbrev pub EndsIn : List ℕ → List ℕ → Type 0
-EndsIn xs rest = (front : List ℕ) × (xs ≡ front ++ rest)
-
--- the streams after a failure in the work that leads from one to the other: output and error output have all that stood before,
--- and nothing that the work would not have put; no more input is taken than the work takes
-pub record Between (from to now : Outside) : Type 0 where
-  pub out_has : Extends from.out now.out
-  pub out_within : Extends now.out to.out
-  pub err_has : Extends from.err now.err
-  pub err_within : Extends now.err to.err
-  pub took : EndsIn from.left now.left
-  pub took_within : EndsIn now.left to.left
-
 -- the files after a failure in work that stores this file, if any: all others are as they were
 abbrev pub FilesLeft : Option (List ℕ) → (before now : Files) → Type 0
 FilesLeft None before now = now ≡ before
 FilesLeft (Some path) before now = (other : List ℕ) → other ≢ path → now other ≡ before other
 
--- what may stand where this call failed in a piece
+-- what may stand where this call failed in a piece: the streams have all that stood before it, and nothing that it would not have
+-- put, and no more input is taken than it takes
 pub record FailsIn (piece : Piece) (call : HostCall) (now : Outside) : Type 0 where
   pub made : Contains piece.calls call
-  pub streams : Between piece.before piece.after now
+  pub streams : Between (standing_on piece.before) (standing_on piece.after) (standing_on now)
   pub files : FilesLeft piece.stores piece.before.files now.files
 
 -- what may stand where this call failed on a trail: it did in one of the pieces. So all that the pieces before that one leave is

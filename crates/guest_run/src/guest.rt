@@ -1,46 +1,46 @@
 //! A guest.
+ghost use Rattle.std.specs.Prelude.{◌≡◌};
+
 use core_step::{FetchCache, Machine};
+use guest_files::Files;
+use linux_calls::Progress;
 use machine_state::GuestEnd;
 use region_map::Regions;
-use std::alloc::{AllocError, Global};
-use std::marker::Model;
+use row_table::Decoded;
+use swap_pager::Pager;
 
-/// A guest between two steps: its machine, the regions of its memory, and how it ended, once it did.
+/// Where a step stands.
+#[derive(Clone, Copy)]
+pub(crate) enum Phase {
+    /// Before it: its instruction is fetched.
+    Fetch,
+    /// This instruction of so many bytes is performed.
+    Perform(Decoded, u8),
+    /// The system call is answered.
+    Answer,
+}
+
+/// A guest, which stands between two steps, or within one.
 #[derive(Drop)]
 pub struct Guest {
     pub(crate) machine: Machine,
     pub(crate) regions: Regions,
-    pub(crate) end: Option<GuestEnd>,
+    pub(crate) files: Files,
+    /// The number of the random stream.
+    pub(crate) random: u64,
+    /// How far the system call came that is answered.
+    pub(crate) progress: Progress,
+    pub(crate) pager: Pager,
     pub(crate) cache: FetchCache,
-}
-
-impl Model for Guest {
-    ghost use Rattle.guest_run.specs.GuestValue.{GuestValue};
-
-    ghost Value = { GuestValue };
-
-    ghost view = { λ g. record { machine = g.machine; regions = g.regions; end = g.end } };
+    pub(crate) phase: Phase,
+    /// How it ended, once it did.
+    pub(crate) end: Option<GuestEnd>,
+    /// A call on the outside failed in its run.
+    pub(crate) failed: bool,
 }
 
 impl Guest {
-    ghost use Rattle.std.specs.Prelude.{◌≡◌, IfOk, None};
-
-    /// A guest that hasn't ended.
-    pub(crate) fn new(
-        alloc: Global,
-        machine: Machine,
-        regions: Regions,
-    ) -> Result<Guest, AllocError>
-        ensures { IfOk result (λ guest. guest ≡ record { machine = machine; regions = regions; end = None }) }
-    {
-        let cache = FetchCache::new(alloc)?;
-        Ok(Guest {
-            machine,
-            regions,
-            end: None,
-            cache,
-        })
-    }
+    ghost use Rattle.std.specs.Prelude.{◌≡◌};
 
     /// The guest's machine.
     pub fn machine(&self) -> &Machine
@@ -54,6 +54,27 @@ impl Guest {
         ensures { result ≡ self.machine }
     {
         self.machine
+    }
+
+    /// The guest's files.
+    pub fn files(&self) -> &Files
+        ensures { result.now ≡ self.now.files }
+    {
+        &self.files
+    }
+
+    /// How many pages were brought into frames, up to 2^64 - 1.
+    pub fn loads(&self) -> u64
+        ensures { result ≡ self.now.pager.loads }
+    {
+        self.pager.loads()
+    }
+
+    /// Whether a call on the outside failed in its run. Then it isn't run any more.
+    pub fn failed(&self) -> bool
+        ensures { result ≡ self.now.failed }
+    {
+        self.failed
     }
 
     /// How the guest ended, if it did.

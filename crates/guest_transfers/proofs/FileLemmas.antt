@@ -63,6 +63,15 @@ piece-append files fd at count more =
     take-add count more (drop at (content_at files fd))
     ∙ ap (λ (xs : List ℕ). take count (drop at (content_at files fd)) ++ take more xs) (drop-drop count at (content_at files fd))
 
+-- no less is read where more is asked for
+pub piece_longer : (files : FilesValue) (fd at n most : ℕ) → n ≤ most → length (read_piece files fd at n) ≤ length (read_piece files fd at most)
+piece_longer files fd at n most le =
+    let split : most ≡ n + (most - n) = omega arith in
+    let len : length (read_piece files fd at most) ≡ length (read_piece files fd at n) + length (read_piece files fd (at + n) (most - n)) =
+    ap (λ (m : ℕ). length (read_piece files fd at m)) split ∙ ap (λ (xs : List ℕ). length xs) (piece-append files fd at n (most - n))
+    ∙ length-append (read_piece files fd at n) (read_piece files fd (at + n) (most - n)) in
+    omega (arith, len)
+
 -- what was read, and what is read from there on
 pub read_on : (files : FilesValue) (fd at from done n : ℕ) → from ≤ done
     → read_piece files fd (at + from) (done - from) ++ read_piece files fd (at + done) n

@@ -132,6 +132,12 @@ Copies table addr count from (Whole done) =
 Copies table addr count from (Away done slot) = Stops (away_access table) Write (single addr count) from (Away done slot)
 Copies table addr count from Failed = ⊥
 
+-- where it waits, the file has bytes for the next part
+abbrev pub HasNext : FilesValue → (fd at count : ℕ) → Stop → Type 0
+HasNext files fd at count (Whole done) = ⊤
+HasNext files fd at count (Away done slot) = 0 < length (read_piece files fd (at + done) (count - done))
+HasNext files fd at count Failed = ⊤
+
 -- ---- random bytes
 -- the bytes of successive draws came, from within the first draw on; the number passes the draws that are used up, and at the
 -- end also the one that was begun

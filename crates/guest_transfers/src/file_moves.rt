@@ -7,7 +7,7 @@ ghost use Rattle.guest_pages.specs.Changes.{IsWritten};
 ghost use Rattle.guest_files.specs.Content.{count_below};
 ghost use Rattle.guest_files.specs.Moves.{read_piece, written_at};
 ghost use Rattle.guest_transfers.specs.Pieces.{are_allowed, asked, most_asked, single};
-ghost use Rattle.guest_transfers.specs.Moves.{blocked_access, IsMappedRange, Copies, Reads, ReadsFile, Stops, Writes, WritesFile};
+ghost use Rattle.guest_transfers.specs.Moves.{blocked_access, IsMappedRange, Copies, HasNext, Reads, ReadsFile, Stops, Writes, WritesFile};
 
 use crate::kinds::{Piece, Stop};
 use crate::pieces::{away_slot, part, part_of, total_len};
@@ -146,6 +146,7 @@ fn copy_part(
     ensures there { IfOk result (λ n. 0 < n → away_at (table_of pages.old (addr / page_size)) ≡ None) }
     ensures none { IfOk result (λ n. n ≡ 0 → pages.new ≡ pages.old) }
     ensures away { IfErr result (λ miss. away_at (table_of pages.old (addr / page_size)) ≡ Some miss) }
+    ensures some { OnErr result (0 < length (read_piece files.now fd at part)) }
     ensures err { OnErr result (pages.new ≡ pages.old) }
 {
     let mut buffer = [0; 4096];
@@ -175,6 +176,7 @@ pub fn copy_file(
     requires offset { at < 2 ^ 63 }
     ensures reads { Reads pages.old pages.new (single addr count) from files.now fd at result }
     ensures stops { Copies (table_of pages.old) addr count from result }
+    ensures next { HasNext files.now fd at count result }
 {
     let _ = pages.limit();
     let mut done = from;

@@ -16,6 +16,7 @@ use cases::{Want, drawn, draws, moves, paths};
 use guest_files::{Entry, Files};
 use guest_pages::{Kind, Pages, Perms};
 use host_edge::{MemSink, MemSource};
+use page_fixture::{enter_at, map_in_frame};
 use std::alloc::{AllocError, Global};
 use std::test::Fail;
 
@@ -25,31 +26,24 @@ const START: u64 = 0x1000;
 
 const SIZE: usize = 0x3000;
 
-// Three pages from `START` on, of which one may be away: the frames are with other pages then.
+// Three pages from `START` on, of which one may be away.
 fn three_pages(alloc: Global, away: u64, perms: Perms) -> Result<Pages, Fail> {
     let mut pages = Pages::new(alloc, 8, 16)?;
     for page in 1..4u64 {
-        if page != away {
+        if page == away {
             pages.map_page(page * 0x1000, perms)?;
+        } else {
+            map_in_frame(&mut pages, page * 0x1000, perms)?;
         }
-    }
-    if away >= 1 && away < 4 {
-        for page in 16..22u64 {
-            pages.map_page(page * 0x1000, BOTH)?;
-        }
-        pages.map_page(away * 0x1000, perms)?;
     }
     Ok(pages)
 }
 
-// Maps the page that is away anew, once a frame is free.
-fn bring(pages: &mut Pages, away: u64, perms: Perms) -> Result<(), Fail> {
-    pages.unmap_page(0x10000);
-    if away >= 1 && away < 4 {
-        pages.unmap_page(away * 0x1000);
-        pages.map_page(away * 0x1000, perms)?;
+// Enters the page that is away.
+fn bring(pages: &mut Pages, away: u64) {
+    if away < 4 {
+        enter_at(pages, away * 0x1000);
     }
-    Ok(())
 }
 
 // So many bytes, none of which is 0.
@@ -176,12 +170,12 @@ fn puts_go_on_behind_a_page_that_was_away(rt: HostRuntime) -> Result<(), Fail> {
                 is_away(put(&pages, &pieces, 0, &mut sink), *done),
                 "case {index}"
             );
-            bring(&mut pages, *away, BOTH)?;
+            bring(&mut pages, *away);
         }
         let last = put(&pages, &pieces, stop.unwrap_or(0), &mut sink);
         assert_eq!(rt; last, Some(Stop::Whole(total_len(&pieces))), "case {index}");
         if stop.is_none() {
-            bring(&mut pages, *away, BOTH)?;
+            bring(&mut pages, *away);
         }
         let want = joined(alloc, &memory(alloc, &pages)?, list)?;
         assert_eq!(rt; sink.bytes(), want.as_slice(), "case {index}");
@@ -202,12 +196,12 @@ fn takes_go_on_until_the_source_ends(rt: HostRuntime) -> Result<(), Fail> {
                 is_away(take(&mut pages, &pieces, 0, &mut source), *done),
                 "case {index}"
             );
-            bring(&mut pages, *away, BOTH)?;
+            bring(&mut pages, *away);
         }
         let last = take(&mut pages, &pieces, stop.unwrap_or(0), &mut source);
         assert_eq!(rt; last, Some(Stop::Whole(*total)), "case {index}");
         if stop.is_none() {
-            bring(&mut pages, *away, BOTH)?;
+            bring(&mut pages, *away);
         }
         assert_eq!(rt;
             memory(alloc, &pages)?,
@@ -285,12 +279,12 @@ fn files_are_read_up_to_their_end(rt: HostRuntime) -> Result<(), Fail> {
                 is_away(read(&mut pages, &pieces, 0, &files), *done),
                 "case {index}"
             );
-            bring(&mut pages, *away, BOTH)?;
+            bring(&mut pages, *away);
         }
         let last = read(&mut pages, &pieces, stop.unwrap_or(0), &files);
         assert_eq!(rt; last, Some(Stop::Whole(*total)), "case {index}");
         if stop.is_none() {
-            bring(&mut pages, *away, BOTH)?;
+            bring(&mut pages, *away);
         }
         assert_eq!(rt;
             memory(alloc, &pages)?,
@@ -314,12 +308,12 @@ fn files_are_written_up_to_the_cap(rt: HostRuntime) -> Result<(), Fail> {
                 is_away(write(&pages, &pieces, 0, &mut files), *done),
                 "case {index}"
             );
-            bring(&mut pages, *away, BOTH)?;
+            bring(&mut pages, *away);
         }
         let last = write(&pages, &pieces, stop.unwrap_or(0), &mut files);
         assert_eq!(rt; last, Some(Stop::Whole(*total)), "case {index}");
         if stop.is_none() {
-            bring(&mut pages, *away, BOTH)?;
+            bring(&mut pages, *away);
         }
         let mut want = joined(alloc, &memory(alloc, &pages)?, list)?;
         want.truncate(*total as usize);
@@ -357,12 +351,12 @@ fn copies_look_at_no_permissions(rt: HostRuntime) -> Result<(), Fail> {
                 is_away(copy(&mut pages, START, 12288, 0, &files), done),
                 "of {given}"
             );
-            bring(&mut pages, 2, Perms::READ)?;
+            bring(&mut pages, 2);
         }
         let last = copy(&mut pages, START, 12288, stop.unwrap_or(0), &files);
         assert_eq!(rt; last, Some(Stop::Whole(total)), "of {given}");
         if stop.is_none() {
-            bring(&mut pages, 2, Perms::READ)?;
+            bring(&mut pages, 2);
         }
         let rest = &bytes[bytes.len().min(1)..];
         assert_eq!(rt;
@@ -429,7 +423,7 @@ fn draws_go_on_within_a_draw(rt: HostRuntime) -> Result<(), Fail> {
             );
             assert_eq!(rt; random, *used, "case {index}");
         }
-        bring(&mut pages, 2, BOTH)?;
+        bring(&mut pages, 2);
         let from = stop.map_or(0, |stop| stop.0);
         let last = draw(&mut pages, piece, from, &mut random);
         assert_eq!(rt; last, Some(Stop::Whole(*len)), "case {index}");
@@ -458,7 +452,7 @@ fn paths_are_read_up_to_their_0(rt: HostRuntime) -> Result<(), Fail> {
         let _ = pages.write(*addr, bytes.as_bytes());
         assert!(rt; is_path(&read_path(&pages, *addr), want), "case {index}");
         if let Want::Waits(text) = want {
-            bring(&mut pages, 2, BOTH)?;
+            bring(&mut pages, 2);
             assert!(rt;
                 is_path(&read_path(&pages, *addr), &Want::Text(text)),
                 "case {index}"
@@ -540,7 +534,7 @@ fn lists_go_on_with_the_next_record(rt: HostRuntime) -> Result<(), Fail> {
             );
             assert_eq!(rt; pieces.len(), read, "at {addr:#x}");
         }
-        bring(&mut pages, 2, BOTH)?;
+        bring(&mut pages, 2);
         assert_eq!(rt;
             list(&pages, addr, count, &mut pieces),
             Some(last),

@@ -16,8 +16,7 @@ use Rattle.linux_calls.specs.Mapping.{copy_rest}
 use Rattle.linux_calls.specs.Errnos.{enosys}
 use Rattle.linux_calls.specs.declared.kinds.Transfer.{Transfer}
 use Rattle.linux_calls.specs.View.{View, StandsFor, with_parts}
-use Rattle.linux_calls.specs.Waiting.{is_start, CanGoOnBy, IsNeeded, NeedsAtStart, NeedsBy, NeedsFor, NeedsIn, NeedsPathIn, NeedsRecord}
-use Rattle.linux_calls.specs.Waiting.{NeedsRecordIn}
+use Rattle.linux_calls.specs.Waiting.{is_start, CanGoOnBy, IsNeeded, NeedsAtStart, NeedsBy, NeedsFirst, NeedsFor, NeedsIn}
 use Rattle.linux_calls.specs.Following.{Does, DoesPart, FollowsAt, KeepsAside, exit_by, exit_of}
 use Rattle.linux_calls.specs.Outside.{Streams}
 use Rattle.linux_calls.specs.declared.kinds.Call.TheVariants.{Exit, ExitGroup}
@@ -52,19 +51,12 @@ waits call old new slot begins is same needs =
       can_go_on = subst (λ (s : Stage). CanGoOnBy s new) (sym stage) tt;
     }
 
-pub record_needs : (call : Call) (old new : View) (addr count : ℕ) (result : Result ℕ Halt) → old.progress.stage ≡ Start → call_numbered (rax old.gprs) ≡ Some call
-    → Does (act call) old new result → ((slot : ℕ) → NeedsRecord new addr count slot → NeedsFor call new slot) → NeedsRecordIn new addr count result → NeedsIn new result
-record_needs call old new addr count (Ok value) begins is does for needs = tt
-record_needs call old new addr count (Err (Refused errno)) begins is does for needs = tt
-record_needs call old new addr count (Err (Need slot)) begins is does for needs = waits call old new slot begins is does (for slot needs)
-record_needs call old new addr count (Err (Failed other)) begins is does for needs = tt
-
-pub path_needs : (call : Call) (old new : View) (addr : ℕ) (result : Result ℕ Halt) → old.progress.stage ≡ Start → call_numbered (rax old.gprs) ≡ Some call
-    → Does (act call) old new result → ((slot : ℕ) → PathWaits new.pages addr slot → NeedsFor call new slot) → NeedsPathIn new addr result → NeedsIn new result
-path_needs call old new addr (Ok value) begins is does for needs = tt
-path_needs call old new addr (Err (Refused errno)) begins is does for needs = tt
-path_needs call old new addr (Err (Need slot)) begins is does for needs = waits call old new slot begins is does (for slot needs)
-path_needs call old new addr (Err (Failed other)) begins is does for needs = tt
+pub first_needs : (call : Call) (old new : View) (result : Result ℕ Halt) → old.progress.stage ≡ Start → call_numbered (rax old.gprs) ≡ Some call
+    → Does (act call) old new result → NeedsFirst call new result → NeedsIn new result
+first_needs call old new (Ok value) begins is does needs = tt
+first_needs call old new (Err (Refused errno)) begins is does needs = tt
+first_needs call old new (Err (Need slot)) begins is does needs = waits call old new slot begins is does needs
+first_needs call old new (Err (Failed other)) begins is does needs = tt
 
 pub rest_unknown : (v : View) (swap : Swap) (base : Whole) → v.progress.stage ≡ Start → call_numbered (rax v.gprs) ≡ None
     → rest_of v.progress (with_parts swap v base) ≡ refuses enosys (with_parts swap v base)

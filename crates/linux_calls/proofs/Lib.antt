@@ -20,4 +20,7 @@ pub mod CallLemmas
 pub mod SettleLemmas
 pub mod CopyLemmas
 pub mod NeedLemmas
+pub mod PassLemmas
+pub mod RankLemmas
 pub mod GrowthLemmas
+pub mod Entered

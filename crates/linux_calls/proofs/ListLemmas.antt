@@ -47,11 +47,11 @@ unfolding buffers_at
 length-buffers byte at zero = refl
 length-buffers byte at (suc n) = ap suc (length-buffers byte (at + 16) n)
 
-no_swap : Swap
+pub no_swap : Swap
 no_swap page = []
 
 -- what was read is behind what stood there
-longer : (pages : PagesValue) (addr : ℕ) (old new : List Piece) → AreRead pages addr old new (length new) → length old ≤ length new
+pub longer : (pages : PagesValue) (addr : ℕ) (old new : List Piece) → AreRead pages addr old new (length new) → length old ≤ length new
 longer pages addr old new read =
     let all = ap (λ (ps : List Piece). length ps) (read no_swap) in
     let more = length-append old (buffers_at (byte_of pages no_swap) (record_place addr (length old)) (length new - length old)) in

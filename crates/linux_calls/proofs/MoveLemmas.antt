@@ -86,7 +86,6 @@ pub keeps_moved : (v new : View) → KeepsTable v.pages new.pages → new.region
 keeps_moved v new keeps same fit = record {
   fit = rw same (fit_kept v.pages new.pages v.regions.regions keeps fit);
   size = keeps.size;
-  resident = λ whole all. rw keeps.table all;
 }
 
 -- ---- where a transfer waits

@@ -89,11 +89,11 @@ away_page pages page slot away list few of = by_entry (table_of pages page) refl
         record { few = few; away = record { page = page; mapped = mapped; there = record { is = is; slot_is = is_away.0 }; resident_is = is_away.1 }; of = of }
 
 -- a byte of an access is on a page that is away, in this slot
-record IsAwayAt (table : Table) (addr len slot : ℕ) : Type 0 where
-  at : ℕ
-  above : addr ≤ at
-  below : at < addr + len
-  away : away_at (table (at / page_size)) ≡ Some (Away slot)
+pub record IsAwayAt (table : Table) (addr len slot : ℕ) : Type 0 where
+  pub at : ℕ
+  pub above : addr ≤ at
+  pub below : at < addr + len
+  pub away : away_at (table (at / page_size)) ≡ Some (Away slot)
 
 -- where an access waits for a page, that is the page of one of its bytes
 first_away_at : (table : Table) (addr len slot : ℕ) → first_away table addr len ≡ Some (Away slot) → IsAwayAt table addr len slot
@@ -106,7 +106,7 @@ first_away_at table addr (suc len) slot e = by_first (away_at (table (addr / pag
     by_first None is later h = let there = later h in let above = there.above in let below = there.below in record { at = there.at; above = omega arith; below = omega arith; away = there.away }
     by_first (Some miss) is later h = record { at = addr; above = omega arith; below = omega arith; away = is ∙ h }
 
-blocked_at : (table : Table) (kind : Kind) (addr len slot : ℕ) → blocked table kind addr len ≡ Some (Away slot) → IsAwayAt table addr len slot
+pub blocked_at : (table : Table) (kind : Kind) (addr len slot : ℕ) → blocked table kind addr len ≡ Some (Away slot) → IsAwayAt table addr len slot
 blocked_at table kind addr len slot e = by_miss (first_miss (perms_in table) kind addr len) refl e
   where
     by_miss : (miss : Option Miss) → first_miss (perms_in table) kind addr len ≡ miss → or_else miss (first_away table addr len) ≡ Some (Away slot)
@@ -169,10 +169,10 @@ copy_among pages at count done slot more e =
 needed_for : (call : Call) (v : View) (slot : ℕ) → NeedsFor call v slot → IsAmong v.pages (call_pages call v.gprs) slot
 needed_for Open v slot needs = path_among v.pages (rdi v.gprs) slot needs
 needed_for Openat v slot needs = path_among v.pages (rsi v.gprs) slot needs
-needed_for Fstat v slot needs = record_among v.pages (rsi v.gprs) 144 slot (omega arith) needs
+needed_for Fstat v slot needs = record_among v.pages (rsi v.gprs) 144 slot (omega arith) needs.1
 needed_for Uname v slot needs = record_among v.pages (rdi v.gprs) 390 slot (omega arith) needs
-needed_for ArchPrctl v slot needs = record_among v.pages (rsi v.gprs) 8 slot (omega arith) needs
-needed_for ClockGettime v slot needs = record_among v.pages (rsi v.gprs) 16 slot (omega arith) needs
+needed_for ArchPrctl v slot needs = record_among v.pages (rsi v.gprs) 8 slot (omega arith) needs.1
+needed_for ClockGettime v slot needs = record_among v.pages (rsi v.gprs) 16 slot (omega arith) needs.1
 needed_for other v slot needs = absurd needs
 
 needed_at_start : (call : Option Call) (v : View) (slot : ℕ) → NeedsAtStart call v slot → IsAmong v.pages (start_pages call v.gprs) slot
@@ -187,7 +187,7 @@ needed_by : (stage : Stage) (v : View) (slot : ℕ) → NeedsBy stage v slot →
 needed_by Start v slot needs = needed_at_start (call_numbered (rax v.gprs)) v slot needs
 needed_by Listing v slot needs = list_among v.pages (rsi v.gprs) (rdx v.gprs) v.progress.pieces v.progress.pieces slot needs
 needed_by (Moving done) v slot needs = needed_part (transfer_of v.gprs v.files done) v done slot needs
-needed_by (Copying at done) v slot needs = copy_among v.pages at (mapped_bytes v.gprs) done slot needs.0 needs.1
+needed_by (Copying at done) v slot needs = copy_among v.pages at (mapped_bytes v.gprs) done slot needs.0 needs.2
 
 waits_for : (old new : View) (slot : ℕ) → GoesOn old new → IsNeeded new slot → WaitsFor old new slot
 unfolding unit_pages
@@ -209,7 +209,7 @@ waits_settled old mid new (Err (Need slot)) end waits needs settles =
     subst (λ (e : CallEnd). WaitsAt old new e) (sym settles.1) (subst (λ (v : View). WaitsFor old v slot) (sym settles.0) (waits_for old mid slot waits needs))
 waits_settled old mid new (Err (Failed call)) end waits needs settles = subst (λ (e : CallEnd). WaitsAt old new e) (sym settles.1) tt
 
-settled_pages : (mid new : View) (result : Result ℕ Halt) (end : CallEnd) → Settles result mid new end → new.pages ≡ mid.pages
+pub settled_pages : (mid new : View) (result : Result ℕ Halt) (end : CallEnd) → Settles result mid new end → new.pages ≡ mid.pages
 settled_pages mid new (Ok value) end settles = ap (λ (v : View). v.pages) settles.0
 settled_pages mid new (Err (Refused errno)) end settles = ap (λ (v : View). v.pages) settles.0
 settled_pages mid new (Err (Need slot)) end settles = ap (λ (v : View). v.pages) settles.0

@@ -75,7 +75,7 @@ module _ (old mid : View) (s s' : Streams) where
       subst (λ (e : CallEnd). FollowsAt old new s s' e) (sym settles.1) (subst (λ (v : View). FollowsAt old v s s' (Host call)) (sym settles.0) (failing call comes))
 
   pub pages_kept : (new : View) (result : Result ℕ Halt) (end : CallEnd) → KeepsPages old mid → Settles result mid new end → KeepsPages old new
-  pages_kept new (Ok value) end keeps settles = subst (λ (v : View). KeepsPages old v) (sym settles.0) (record { fit = keeps.fit; size = keeps.size; resident = keeps.resident })
-  pages_kept new (Err (Refused errno)) end keeps settles = subst (λ (v : View). KeepsPages old v) (sym settles.0) (record { fit = keeps.fit; size = keeps.size; resident = keeps.resident })
+  pages_kept new (Ok value) end keeps settles = subst (λ (v : View). KeepsPages old v) (sym settles.0) (record { fit = keeps.fit; size = keeps.size })
+  pages_kept new (Err (Refused errno)) end keeps settles = subst (λ (v : View). KeepsPages old v) (sym settles.0) (record { fit = keeps.fit; size = keeps.size })
   pages_kept new (Err (Need slot)) end keeps settles = subst (λ (v : View). KeepsPages old v) (sym settles.0) keeps
   pages_kept new (Err (Failed call)) end keeps settles = subst (λ (v : View). KeepsPages old v) (sym settles.0) keeps

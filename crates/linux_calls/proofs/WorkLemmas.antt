@@ -93,7 +93,7 @@ works_from {at} {work} {old} {mid} {new} {s} {s'} {f} {f'} {result} progress wor
           progress = same.progress ∙ parts.progress;
           steps = same.steps ∙ parts.steps;
         };
-        pages = record { fit = pages.fit; size = pages.size; resident = pages.resident };
+        pages = record { fit = pages.fit; size = pages.size };
         swap = subst (λ (v : View). KeepsSwap v.pages (view_of new).pages) view works.kept.swap;
       };
       comes = subst (λ (v : View). Comes work (TakesInput v → IsSome s.left) v (view_of new) s s' result) view works.comes;

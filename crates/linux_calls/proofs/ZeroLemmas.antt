@@ -10,7 +10,7 @@ use Rattle.machine_state.specs.World.{World}
 use Rattle.machine_state.specs.declared.kinds.Region.{Region}
 use Rattle.guest_pages.specs.Table.{Mapped, Table, perms_in}
 use Rattle.guest_pages.specs.Pages.{PagesValue, table_of, byte_of, memory_of}
-use Rattle.guest_pages.specs.Changes.{AllResident, IsMapped, IsZeroed}
+use Rattle.guest_pages.specs.Changes.{IsMapped, IsZeroed}
 use Rattle.region_map.specs.Ranges.{is_in}
 use Rattle.region_map.specs.Calls.{NoneIn, IsFirst, FitPages, is_mapped, highest_end}
 use Rattle.linux_calls.specs.Call.{gives}
@@ -61,27 +61,26 @@ cleared_more : (from page at byte : ℕ) → from ≤ page → cond (at == page)
 cleared_more from page at byte le = grind (arith, nat_tests)
 
 pub zeroed_more : (from page : ℕ) (old mid new : PagesValue) (mapped : Mapped) → from ≤ page → AreZeroed from page old mid → table_of mid page ≡ Some mapped
-    → IsMapped mid new page mapped.perms → (mid.frames ≡ length mid.slots → AllResident mid → AllResident new) → AreZeroed from (page + 1) old new
-zeroed_more from page old mid new mapped le are is m resident = record {
+    → IsMapped mid new page mapped.perms → AreZeroed from (page + 1) old new
+zeroed_more from page old mid new mapped le are is m = record {
   size = record { frames = m.size.frames ∙ are.size.frames; pages = m.size.pages ∙ are.size.pages };
   perms = λ other. perms_after mid new page mapped is m other ∙ are.perms other;
   byte = λ swap addr.
       ap (λ (f : ℕ → ℕ). f addr) (m.byte swap) ∙ ap (λ (b : ℕ). cond (addr / page_size == page) 0 b) (are.byte swap addr)
       ∙ cleared_more from page (addr / page_size) (byte_of old swap addr) le;
   count = m.count ∙ (rw (is, add-zero) refl) ∙ are.count;
-  resident = λ whole all. resident (are.size.frames ∙ whole ∙ sym are.size.pages) (are.resident whole all);
   swap = swap_then old mid new are.swap (swap_mapped mid new page mapped.perms m);
 }
 
 pub zeroed_step : (from page : ℕ) (old mid new : PagesValue) → from ≤ page → AreZeroed from page old mid → IsSome (perms_in (table_of old) page)
-    → IsZeroed mid new page → (mid.frames ≡ length mid.slots → AllResident mid → AllResident new) → AreZeroed from (page + 1) old new
-zeroed_step from page old mid new le are some is resident = here (table_of mid page) refl
+    → IsZeroed mid new page → AreZeroed from (page + 1) old new
+zeroed_step from page old mid new le are some is = here (table_of mid page) refl
   where
     here : (o : Option Mapped) → table_of mid page ≡ o → AreZeroed from (page + 1) old new
     here None e =
         absurd (let gone : perms_in (table_of old) page ≡ None = sym (are.perms page) ∙ ap (λ (o : Option Mapped). option_map (λ m. m.perms) o) e in
         let never : IsSome {T = ℕ} None = subst (λ (o : Option ℕ). IsSome o) gone some in cc)
-    here (Some mapped) e = zeroed_more from page old mid new mapped le are e (is mapped e) resident
+    here (Some mapped) e = zeroed_more from page old mid new mapped le are e (is mapped e)
 
 pub zeroed_none : (from : ℕ) (pages : PagesValue) → AreZeroed from from pages pages
 zeroed_none from pages = record {
@@ -89,7 +88,6 @@ zeroed_none from pages = record {
   perms = λ page. refl;
   byte = λ swap addr. outside from (addr / page_size) (byte_of pages swap addr);
   count = refl;
-  resident = λ whole all. all;
   swap = swap_same pages;
 }
   where

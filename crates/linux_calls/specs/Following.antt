@@ -1,5 +1,5 @@
 -- How a call of the code follows the written one, whatever the swap holds.
-use Rattle.std.specs.Prelude.{◌≡◌, ◌+◌, ◌<◌, ◌^◌, ◌%◌, ℕ, Bool, if◌then◌else◌, List, Contains, length, slice_set, Option, Some, None}
+use Rattle.std.specs.Prelude.{◌≡◌, ◌+◌, ◌<◌, ◌^◌, ◌%◌, ℕ, Bool, if◌then◌else◌, List, Contains, slice_set, Option, Some, None}
 use Rattle.std.specs.Prelude.{IsSome, is_some, Result, Ok, Err}
 use Rattle.std.specs.Int.{w64, cast_unsigned}
 use Rattle.machine_state.specs.declared.kinds.Miss.{Miss}
@@ -11,7 +11,7 @@ use Rattle.host_edge.specs.declared.outside.HostCall.{HostCall}
 use Rattle.host_edge.specs.declared.outside.HostCall.TheVariants.{Load, Store, SwapOpen, SwapGet, SwapPut, Take, PutOut, PutErr}
 use Rattle.guest_pages.specs.Table.{perms_in}
 use Rattle.guest_pages.specs.Pages.{PagesValue, table_of, byte_of, mapped_count}
-use Rattle.guest_pages.specs.Changes.{AllResident, KeepsSize}
+use Rattle.guest_pages.specs.Changes.{KeepsSize}
 use Rattle.linux_calls.specs.declared.world.World.{World}
 use Rattle.linux_calls.specs.declared.kinds.CallEnd.{CallEnd}
 use Rattle.linux_calls.specs.declared.kinds.CallEnd.TheVariants.{Value, Exit, Need as NeedEnd, Host}
@@ -73,13 +73,12 @@ halt_of (Denied addr) = Refused efault
 halt_of (NonCanonical addr) = Refused efault
 halt_of (Away slot) = Need slot
 
--- the pages from one on and below another became zeros, whichever of them are in frames then
+-- the pages from one on and below another became zeros
 pub record AreZeroed (from to : ℕ) (old new : PagesValue) : Type 0 where
   pub size : KeepsSize old new
   pub perms : (page : ℕ) → perms_in (table_of new) page ≡ perms_in (table_of old) page
   pub byte : (swap : Swap) (addr : ℕ) → byte_of new swap addr ≡ cleared from to (byte_of old swap) addr
   pub count : mapped_count new ≡ mapped_count old
-  pub resident : old.frames ≡ length old.slots → AllResident old → AllResident new
   pub swap : KeepsSwap old new
 
 -- ---- calls that may touch streams

@@ -11,4 +11,5 @@ pub mod View
 pub mod Outside
 pub mod Waiting
 pub mod Units
+pub mod Passing
 pub mod Following

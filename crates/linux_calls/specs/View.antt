@@ -4,7 +4,7 @@ use Rattle.machine_state.specs.Memory.{Swap}
 use Rattle.machine_state.specs.World.{World as Whole}
 use Rattle.guest_files.specs.Files.{FilesValue}
 use Rattle.guest_pages.specs.Pages.{PagesValue, memory_of}
-use Rattle.guest_pages.specs.Changes.{AllResident, KeepsSize}
+use Rattle.guest_pages.specs.Changes.{KeepsSize}
 use Rattle.region_map.specs.Calls.{RegionsValue, FitPages}
 use Rattle.linux_calls.specs.Rest.{ProgressValue}
 use Rattle.linux_calls.specs.Outside.{Streams, AreTold, standing_in}
@@ -71,9 +71,7 @@ pub record StandsFor (swap : Swap) (v : View) (s : Streams) (w : Whole) : Type 0
 abbrev pub FitParts : View → Type 0
 FitParts v = FitPages v.pages v.regions.regions
 
--- a call leaves pages that fit the regions, as many frames and slots as there were, and where each page can have a frame, no page
--- away if none was
+-- a call leaves pages that fit the regions, and as many frames and slots as there were
 pub record KeepsPages (old new : View) : Type 0 where
   pub fit : FitParts new
   pub size : KeepsSize old.pages new.pages
-  pub resident : old.pages.frames ≡ length old.pages.slots → AllResident old.pages → AllResident new.pages

@@ -1,11 +1,14 @@
 -- Where a call may go on, and for which page it waits.
-use Rattle.std.specs.Prelude.{◌≡◌, ◌≤◌, ◌<◌, ◌+◌, ◌*◌, ◌^◌, ℕ, Bool, true, false, ⊤, List, length, Option, Some, None, Result, Ok, Err}
+use Rattle.std.specs.Prelude.{◌≡◌, ◌≤◌, ◌<◌, ◌+◌, ◌-◌, ◌*◌, ◌^◌, ◌⊎◌, ℕ, Bool, true, false, ⊤, List, length, Option, Some, None, IsSome}
+use Rattle.std.specs.Prelude.{Result, Ok, Err}
 use Rattle.machine_state.specs.declared.kinds.Kind.TheVariants.{Write}
 use Rattle.machine_state.specs.declared.kinds.Miss.TheVariants.{Away}
 use Rattle.machine_state.specs.Memory.{Permissions, page_size}
+use Rattle.machine_state.specs.World.{place_at}
 use Rattle.guest_pages.specs.Table.{blocked, perms_in}
 use Rattle.guest_pages.specs.Pages.{table_of}
 use Rattle.guest_files.specs.Files.{FilesValue}
+use Rattle.guest_files.specs.Moves.{read_piece}
 use Rattle.region_map.specs.Calls.{pages_up}
 use Rattle.guest_transfers.specs.Pieces.{are_allowed, asked, most_asked, part_at, single}
 use Rattle.guest_transfers.specs.Buffers.{most_buffers}
@@ -24,8 +27,9 @@ use Rattle.linux_calls.specs.declared.kinds.Stage.{Stage}
 use Rattle.linux_calls.specs.declared.kinds.Stage.TheVariants.{Start, Listing, Moving, Copying}
 use Rattle.linux_calls.specs.declared.kinds.Transfer.{Transfer}
 use Rattle.linux_calls.specs.declared.kinds.Transfer.TheVariants.{Takes, PutsOut, PutsErr, Reads, Writes, Draws}
-use Rattle.linux_calls.specs.Call.{rax, rdi, rsi, rdx, r9}
+use Rattle.linux_calls.specs.Call.{low, rax, rdi, rsi, rdx, r9}
 use Rattle.linux_calls.specs.Mapping.{mapped_descriptor}
+use Rattle.linux_calls.specs.Records.{get_fs, get_gs, is_clock}
 use Rattle.linux_calls.specs.Table.{call_numbered}
 use Rattle.linux_calls.specs.Transfers.{kind_of}
 use Rattle.linux_calls.specs.Rest.{transfer_of}
@@ -92,6 +96,10 @@ pub record CanList (transfer : Option Transfer) (gprs : List ℕ) (pieces : List
 abbrev pub mapped_bytes : List ℕ → ℕ
 mapped_bytes gprs = pages_up (rsi gprs) * page_size
 
+-- the bytes of the file that come there, behind so many of them
+abbrev pub bytes_to_copy : View → (done : ℕ) → List ℕ
+bytes_to_copy v done = read_piece v.files (mapped_descriptor v.gprs) (r9 v.gprs + done) (mapped_bytes v.gprs - done)
+
 -- a copy of a file to new pages goes on
 pub record CanCopy (v : View) (at done : ℕ) : Type 0 where
   pub mapped : IsMappedRange (table_of v.pages) at (mapped_bytes v.gprs)
@@ -114,13 +122,14 @@ CanGoOn v = CanGoOnBy v.progress.stage v
 abbrev pub NeedsRecord : View → (addr count slot : ℕ) → Type 0
 NeedsRecord v addr count slot = blocked (table_of v.pages) Write addr count ≡ Some (Away slot)
 
--- the part of a path, or the record that a call writes
+-- the part of a path, or the record that a call writes once its checks have passed
 abbrev pub NeedsFor : Call → View → (slot : ℕ) → Type 0
 NeedsFor Open v slot = PathWaits v.pages (rdi v.gprs) slot
-NeedsFor Fstat v slot = NeedsRecord v (rsi v.gprs) 144 slot
+NeedsFor Fstat v slot = IsSome (place_at v.files.places (low (rdi v.gprs))) × NeedsRecord v (rsi v.gprs) 144 slot
 NeedsFor Uname v slot = NeedsRecord v (rdi v.gprs) 390 slot
-NeedsFor ArchPrctl v slot = NeedsRecord v (rsi v.gprs) 8 slot
-NeedsFor ClockGettime v slot = NeedsRecord v (rsi v.gprs) 16 slot
+NeedsFor ArchPrctl v slot =
+    ((low (rdi v.gprs) ≡ get_fs) ⊎ (low (rdi v.gprs) ≡ get_gs)) × NeedsRecord v (rsi v.gprs) 8 slot
+NeedsFor ClockGettime v slot = (is_clock (low (rdi v.gprs)) ≡ true) × NeedsRecord v (rsi v.gprs) 16 slot
 NeedsFor Openat v slot = PathWaits v.pages (rsi v.gprs) slot
 NeedsFor Read v slot = ⊥
 NeedsFor WriteCall v slot = ⊥
@@ -157,7 +166,8 @@ NeedsBy Start v slot = NeedsAtStart (call_numbered (rax v.gprs)) v slot
 NeedsBy Listing v slot = ListWaits v.pages (rsi v.gprs) (rdx v.gprs) v.progress.pieces v.progress.pieces slot
 NeedsBy (Moving done) v slot = NeedsPart (transfer_of v.gprs v.files done) v done slot
 NeedsBy (Copying at done) v slot =
-    (done < mapped_bytes v.gprs) × (away_access (table_of v.pages) (part_at Write (single at (mapped_bytes v.gprs)) done) ≡ Some (Away slot))
+    (done < mapped_bytes v.gprs) × (0 < length (bytes_to_copy v done))
+    × (away_access (table_of v.pages) (part_at Write (single at (mapped_bytes v.gprs)) done) ≡ Some (Away slot))
 
 pub record IsNeeded (v : View) (slot : ℕ) : Type 0 where
   pub needs : NeedsBy v.progress.stage v slot
@@ -177,14 +187,21 @@ NeedsIn v (Err (Refused errno)) = ⊤
 NeedsIn v (Err (Need slot)) = IsNeeded v slot
 NeedsIn v (Err (Failed call)) = ⊤
 
--- where a call that writes a record waits
+-- where a call that reads a path or writes a record waits
+abbrev pub NeedsFirst : Call → View → Result ℕ Halt → Type 0
+NeedsFirst call v (Ok value) = ⊤
+NeedsFirst call v (Err (Refused errno)) = ⊤
+NeedsFirst call v (Err (Need slot)) = NeedsFor call v slot
+NeedsFirst call v (Err (Failed call')) = ⊥
+
+-- where the writing of a record waits
 abbrev pub NeedsRecordIn : View → (addr count : ℕ) → Result ℕ Halt → Type 0
 NeedsRecordIn v addr count (Ok value) = ⊤
 NeedsRecordIn v addr count (Err (Refused errno)) = ⊤
 NeedsRecordIn v addr count (Err (Need slot)) = NeedsRecord v addr count slot
 NeedsRecordIn v addr count (Err (Failed call)) = ⊥
 
--- where a call that reads a path waits
+-- where the reading of a path waits
 abbrev pub NeedsPathIn : View → (addr : ℕ) → Result ℕ Halt → Type 0
 NeedsPathIn v addr (Ok value) = ⊤
 NeedsPathIn v addr (Err (Refused errno)) = ⊤

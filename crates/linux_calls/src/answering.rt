@@ -10,6 +10,8 @@ ghost use Rattle.linux_calls.specs.Following.{DoesAtOnce, DoesPart, FollowsAt, I
 ghost use Rattle.linux_calls.specs.Following.{answered_view, exit_of as exit_of_spec, failed_by, faults};
 ghost use Rattle.linux_calls.specs.Waiting.{CanGoOn, IsQuick, IsSlow, NeedsAt, NeedsIn};
 ghost use Rattle.linux_calls.specs.Units.{KeepsSwap, WaitsAt, WaitsIn, moving_from};
+ghost use Rattle.linux_calls.specs.Passing.{PassedAt, PassedIn, Passes, PassesFor, PassesTransfer};
+ghost use Rattle.guest_pages.specs.Pages.{table_of};
 
 use crate::copying::{copy_on, mmap};
 use crate::errnos::{ENOSYS, negative};
@@ -77,6 +79,7 @@ fn quick(w: &mut World, call: Call) -> Result<u64, Halt>
     ensures does { DoesPart (act call) (view_of w.old) (view_of w.new) result }
     ensures needs { NeedsIn (view_of w.new) result }
     ensures waits { WaitsIn (view_of w.old) (view_of w.new) result }
+    ensures exact { PassedIn (PassesFor call (view_of w.old) (table_of w.new.pages.now)) result }
 {
     match at_once(w, call) {
         Ok(value) => Ok(value),
@@ -94,6 +97,7 @@ fn slow(w: &mut World, call: Call) -> Result<u64, Halt>
     ensures does { DoesPart (act call) (view_of w.old) (view_of w.new) result }
     ensures needs { NeedsIn (view_of w.new) result }
     ensures waits { WaitsIn (view_of w.old) (view_of w.new) result }
+    ensures exact { PassedIn (PassesFor call (view_of w.old) (table_of w.new.pages.now)) result }
 {
     match call {
         Call::Open => open(w),
@@ -133,10 +137,11 @@ fn getrandom<S: Source, O: Sink, E: Sink>(
 ) -> Result<u64, Halt>
     requires is { call_numbered_spec (rax w.old.gprs.now) ≡ Some Call.Getrandom }
     requires fit { FitParts (view_of w.old) }
-    ensures { Works (moving_from (named_piece (rdi w.old.gprs.now) (rsi w.old.gprs.now)) 0) (act Call.Getrandom) w.old w.new
+    ensures works { Works (moving_from (named_piece (rdi w.old.gprs.now) (rsi w.old.gprs.now)) 0) (act Call.Getrandom) w.old w.new
         (streams (S.left input.old) (O.taken out.old) (E.taken err.old)) (streams (S.left input.new) (O.taken out.new) (E.taken err.new))
         (faults (S.faults input.old) (O.faults out.old) (E.faults err.old))
         (faults (S.faults input.new) (O.faults out.new) (E.faults err.new)) result }
+    ensures exact { PassedIn (PassesFor Call.Getrandom (view_of w.old) (table_of w.new.pages.now)) result }
 {
     if low(w.rdx()) > RANDOM_FLAGS {
         return Err(Halt::Refused(Errno::EINVAL));
@@ -158,11 +163,13 @@ fn moving<S: Source, O: Sink, E: Sink>(
 ) -> Result<u64, Halt>
     requires is { transfer_of_spec w.old.gprs.now w.old.files.now 0 ≡ transfer }
     requires fit { FitParts (view_of w.old) }
-    ensures { Works (moving_from (named_piece (rsi w.old.gprs.now) (rdx w.old.gprs.now)) 0)
+    ensures works { Works (moving_from (named_piece (rsi w.old.gprs.now) (rdx w.old.gprs.now)) 0)
         (begun transfer (named_piece (rsi w.old.gprs.now) (rdx w.old.gprs.now))) w.old w.new
         (streams (S.left input.old) (O.taken out.old) (E.taken err.old)) (streams (S.left input.new) (O.taken out.new) (E.taken err.new))
         (faults (S.faults input.old) (O.faults out.old) (E.faults err.old))
         (faults (S.faults input.new) (O.faults out.new) (E.faults err.new)) result }
+    ensures exact { PassedIn (λ stop.
+        PassesTransfer transfer (view_of w.old) (named_piece (rsi w.old.gprs.now) (rdx w.old.gprs.now)) stop) result }
 {
     let piece = Piece {
         addr: w.rsi(),
@@ -183,10 +190,11 @@ fn perform<S: Source, O: Sink, E: Sink>(
     requires begins { w.old.progress.now.stage ≡ Stage.Start }
     requires stays { ends_guest call ≡ false }
     requires fit { FitParts (view_of w.old) }
-    ensures { Works w.old.progress.now (act call) w.old w.new
+    ensures works { Works w.old.progress.now (act call) w.old w.new
         (streams (S.left input.old) (O.taken out.old) (E.taken err.old)) (streams (S.left input.new) (O.taken out.new) (E.taken err.new))
         (faults (S.faults input.old) (O.faults out.old) (E.faults err.old))
         (faults (S.faults input.new) (O.faults out.new) (E.faults err.new)) result }
+    ensures exact { PassedIn (PassesFor call (view_of w.old) (table_of w.new.pages.now)) result }
 {
     let transfer = transfer_of(w, 0);
     match call {
@@ -227,10 +235,11 @@ fn go_on<S: Source, O: Sink, E: Sink>(
     requires stays { exit_of_spec (view_of w.old) ≡ None }
     requires can { CanGoOn (view_of w.old) }
     requires fit { FitParts (view_of w.old) }
-    ensures { Works w.old.progress.now (rest_of w.old.progress.now) w.old w.new
+    ensures works { Works w.old.progress.now (rest_of w.old.progress.now) w.old w.new
         (streams (S.left input.old) (O.taken out.old) (E.taken err.old)) (streams (S.left input.new) (O.taken out.new) (E.taken err.new))
         (faults (S.faults input.old) (O.faults out.old) (E.faults err.old))
         (faults (S.faults input.new) (O.faults out.new) (E.faults err.new)) result }
+    ensures exact { PassedIn (Passes (view_of w.old) (view_of w.new)) result }
 {
     match w.progress.stage() {
         Stage::Start => match call_numbered(w.rax()) {
@@ -345,6 +354,7 @@ pub fn answer<S: Source, O: Sink, E: Sink>(
         (streams (S.left input.new) (O.taken out.new) (E.taken err.new)) }
     ensures needs { NeedsAt (view_of w.new) result }
     ensures waits { WaitsAt (view_of w.old) (view_of w.new) result }
+    ensures exact { PassedAt (Passes (view_of w.old) (view_of w.new)) result }
     ensures swap { KeepsSwap (view_of w.old).pages (view_of w.new).pages }
     ensures cause { IsCaused (failed_by result) (faults (S.faults input.old) (O.faults out.old) (E.faults err.old))
         (faults (S.faults input.new) (O.faults out.new) (E.faults err.new)) }

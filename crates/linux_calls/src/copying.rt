@@ -1,5 +1,5 @@
 //! The call mmap.
-ghost use Rattle.std.specs.Prelude.{◌≡◌, ◌≤◌, ◌<◌, ◌+◌, ◌*◌, ◌/◌, ◌%◌, ◌^◌, ◌&&◌, ◌==◌, true, false, OnOk, IfSome, Some};
+ghost use Rattle.std.specs.Prelude.{◌≡◌, ◌≤◌, ◌<◌, ◌+◌, ◌*◌, ◌/◌, ◌%◌, ◌^◌, ◌&&◌, ◌==◌, true, false, length, OnOk, IfSome, Some};
 ghost use Rattle.std.specs.Result.{result_err};
 ghost use Rattle.machine_state.specs.Memory.{page_size};
 ghost use Rattle.machine_state.specs.World.{place_at};
@@ -7,15 +7,19 @@ ghost use Rattle.guest_files.specs.Open.{has_flag};
 ghost use Rattle.guest_pages.specs.Pages.{table_of};
 ghost use Rattle.guest_transfers.specs.Moves.{IsMappedRange, ReadsFile};
 ghost use Rattle.region_map.specs.Calls.{highest_end, lowest_page, pages_up as up_of};
+ghost use Rattle.region_map.specs.Ranges.{changed_regions};
 ghost use Rattle.linux_calls.specs.Call.{is_page, r10, r9, rax, rdi, rsi};
 ghost use Rattle.linux_calls.specs.Mapping.{copy_rest, file_refusal, filled_from, free_page as free_page_spec};
 ghost use Rattle.linux_calls.specs.Mapping.{is_anonymous as is_anonymous_spec, is_fixed as is_fixed_spec, is_free, mapped_at};
 ghost use Rattle.linux_calls.specs.Mapping.{mapped_descriptor, mmap_call, mmap_page as mmap_page_spec, mmap_refusal, place_refusal};
+ghost use Rattle.linux_calls.specs.Mapping.{mmap_change};
+ghost use Rattle.linux_calls.specs.Parts.{passes_limits};
 ghost use Rattle.linux_calls.specs.View.{view_of, FitParts};
 ghost use Rattle.linux_calls.specs.Following.{DoesPart, Kept};
 ghost use Rattle.linux_calls.specs.Waiting.{CanCopy, NeedsIn, mapped_bytes};
 ghost use Rattle.linux_calls.specs.Table.{call_numbered};
 ghost use Rattle.linux_calls.specs.Units.{WaitsIn, copying_from, standing_at};
+ghost use Rattle.linux_calls.specs.Passing.{PassedIn, PassesCopy, PassesMmap};
 ghost use Rattle.linux_calls.specs.declared.kinds.Call.{Call};
 
 use crate::errnos::{ENODEV, ENOMEM};
@@ -56,6 +60,8 @@ pub(crate) fn copy_on(w: &mut World, at: u64, from: u64) -> Result<u64, Halt>
     ensures does { DoesPart (copy_rest at from) (view_of w.old) (view_of w.new) result }
     ensures needs { NeedsIn (view_of w.new) result }
     ensures waits { WaitsIn (standing_at (view_of w.old) (copying_from at from w.old.progress.now.pieces)) (view_of w.new) result }
+    ensures exact { PassedIn (λ _. PassesCopy (table_of w.old.pages.now) (view_of w.old) at from) result }
+    ensures table { table_of w.new.pages.now ≡ table_of w.old.pages.now }
 {
     let count = pages_up(w.rsi()) * PAGE_SIZE;
     let fd = low(w.gprs.get(R8));
@@ -146,6 +152,8 @@ fn fill(w: &mut World, at: u64) -> Result<u64, Halt>
     ensures does { DoesPart (filled_from at) (view_of w.old) (view_of w.new) result }
     ensures needs { NeedsIn (view_of w.new) result }
     ensures waits { WaitsIn (standing_at (view_of w.old) (copying_from at 0 w.old.progress.now.pieces)) (view_of w.new) result }
+    ensures exact { PassedIn (λ _. is_anonymous_spec (r10 w.old.gprs.now) ≡ false
+        → PassesCopy (table_of w.new.pages.now) (view_of w.old) at 0) result }
 {
     if is_anonymous(w.gprs.get(R10)) {
         return Ok(at);
@@ -164,6 +172,7 @@ fn past_end(w: &mut World, at: u64) -> Result<u64, Halt>
     ensures does { DoesPart (copy_rest at 0) (view_of w.old) (view_of w.new) result }
     ensures needs { NeedsIn (view_of w.new) result }
     ensures waits { WaitsIn (standing_at (view_of w.old) (copying_from at 0 w.old.progress.now.pieces)) (view_of w.new) result }
+    ensures exact { PassedIn (λ _. PassesCopy (table_of w.new.pages.now) (view_of w.old) at 0) result }
 {
     let _ = w.files.cap();
     let _ = w.files.entries();
@@ -183,6 +192,10 @@ fn map_at(w: &mut World, page: u64) -> Result<u64, Halt>
     ensures does { DoesPart (mapped_at page) (view_of w.old) (view_of w.new) result }
     ensures needs { NeedsIn (view_of w.new) result }
     ensures waits { WaitsIn (view_of w.old) (view_of w.new) result }
+    ensures exact { PassedIn (λ _. is_anonymous_spec (r10 w.old.gprs.now) ≡ false
+        → passes_limits (length w.old.pages.now.slots)
+        (changed_regions (mmap_change w.old.gprs.now) page (page + up_of (rsi w.old.gprs.now)) w.old.regions.now.regions) ≡ false
+        → PassesCopy (table_of w.new.pages.now) (view_of w.old) (page * page_size) 0) result }
 {
     let at = page * PAGE_SIZE;
     let count = pages_up(w.rsi());
@@ -249,6 +262,7 @@ pub(crate) fn mmap(w: &mut World) -> Result<u64, Halt>
     ensures does { DoesPart mmap_call (view_of w.old) (view_of w.new) result }
     ensures needs { NeedsIn (view_of w.new) result }
     ensures waits { WaitsIn (view_of w.old) (view_of w.new) result }
+    ensures exact { PassedIn (λ _. PassesMmap (view_of w.old) (table_of w.new.pages.now)) result }
 {
     match check_mmap(w) {
         Ok(()) => {}

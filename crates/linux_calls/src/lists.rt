@@ -10,6 +10,7 @@ ghost use Rattle.linux_calls.specs.View.{view_of, FitParts};
 ghost use Rattle.linux_calls.specs.Following.{Works, faults};
 ghost use Rattle.linux_calls.specs.Waiting.{IsListed};
 ghost use Rattle.linux_calls.specs.Units.{listing_from, moving_from};
+ghost use Rattle.linux_calls.specs.Passing.{PassedIn, PassesList, PassesTransfer};
 ghost use Rattle.guest_transfers.specs.Pieces.{asked, most_asked};
 ghost use Rattle.guest_files.specs.declared.errno.Errno.{Errno};
 ghost use Rattle.linux_calls.specs.declared.kinds.Halt.{Halt};
@@ -39,6 +40,8 @@ fn join<S: Source, O: Sink, E: Sink>(
         (faults (S.faults input.old) (O.faults out.old) (E.faults err.old))
         (faults (S.faults input.new) (O.faults out.new) (E.faults err.new)) result }
     ensures refused { most_asked < asked w.old.progress.now.pieces → result ≡ Err (Halt.Refused Errno.EINVAL) }
+    ensures exact { PassedIn (λ stop. asked w.old.progress.now.pieces ≤ most_asked
+        → PassesTransfer (Some transfer) (view_of w.old) w.old.progress.now.pieces stop) result }
 {
     if total_len(w.progress.pieces()) > MOST_ASKED {
         return Err(Halt::Refused(Errno::EINVAL));
@@ -60,10 +63,11 @@ pub(crate) fn list_on<S: Source, O: Sink, E: Sink>(
     requires within { length w.old.progress.now.pieces ≤ rdx w.old.gprs.now }
     requires place { record_place (rsi w.old.gprs.now) (length w.old.progress.now.pieces) < 2 ^ 64 }
     requires fit { FitParts (view_of w.old) }
-    ensures { Works (listing_from w.old.progress.now.pieces) (list_rest transfer w.old.progress.now.pieces) w.old w.new
+    ensures works { Works (listing_from w.old.progress.now.pieces) (list_rest transfer w.old.progress.now.pieces) w.old w.new
         (streams (S.left input.old) (O.taken out.old) (E.taken err.old)) (streams (S.left input.new) (O.taken out.new) (E.taken err.new))
         (faults (S.faults input.old) (O.faults out.old) (E.faults err.old))
         (faults (S.faults input.new) (O.faults out.new) (E.faults err.new)) result }
+    ensures exact { PassedIn (λ stop. PassesList (Some transfer) (view_of w.old) w.old.progress.now.pieces stop) result }
 {
     let addr = w.rsi();
     let count = w.rdx();
@@ -88,10 +92,11 @@ pub(crate) fn list_call<S: Source, O: Sink, E: Sink>(
     requires is { transfer_of w.old.gprs.now w.old.files.now 0 ≡ transfer }
     requires listed { (t : Transfer) → transfer ≡ Some t → IsListed t }
     requires fit { FitParts (view_of w.old) }
-    ensures { Works (listing_from []) (listed transfer) w.old w.new
+    ensures works { Works (listing_from []) (listed transfer) w.old w.new
         (streams (S.left input.old) (O.taken out.old) (E.taken err.old)) (streams (S.left input.new) (O.taken out.new) (E.taken err.new))
         (faults (S.faults input.old) (O.faults out.old) (E.faults err.old))
         (faults (S.faults input.new) (O.faults out.new) (E.faults err.new)) result }
+    ensures exact { PassedIn (λ stop. rdx w.old.gprs.now ≤ most_buffers → PassesList transfer (view_of w.old) [] stop) result }
 {
     match transfer {
         Some(transfer) => {

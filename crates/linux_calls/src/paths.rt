@@ -2,10 +2,12 @@
 ghost use Rattle.std.specs.Prelude.{◌≡◌, ◌==◌, ◌||◌};
 ghost use Rattle.linux_calls.specs.FileCalls.{is_absolute as is_absolute_spec, open_call, openat_call, opened_call, opened_from};
 ghost use Rattle.linux_calls.specs.FileCalls.{open_path_at};
-ghost use Rattle.linux_calls.specs.Call.{rdi, rsi};
 ghost use Rattle.linux_calls.specs.View.{view_of, FitParts};
 ghost use Rattle.linux_calls.specs.Following.{Does, DoesAtOnce, Kept};
-ghost use Rattle.linux_calls.specs.Waiting.{NeedsPathIn};
+ghost use Rattle.linux_calls.specs.Waiting.{NeedsFirst, NeedsPathIn};
+ghost use Rattle.linux_calls.specs.Passing.{NeverWaits, PassedIn, PassesFirst};
+ghost use Rattle.linux_calls.specs.declared.kinds.Call.{Call};
+ghost use Rattle.guest_transfers.specs.Moves.{PathWaits};
 
 use crate::errnos::{EFAULT, ENAMETOOLONG, ENOTDIR};
 use crate::kinds::Halt;
@@ -61,6 +63,7 @@ fn open_at(w: &mut World, fd: u32, addr: u64, flags: u32) -> Result<u64, Halt>
     ensures kept { Kept w.old w.new }
     ensures does { Does (open_path_at fd addr flags) (view_of w.old) (view_of w.new) result }
     ensures needs { NeedsPathIn (view_of w.new) addr result }
+    ensures exact { PassedIn (λ _. NeverWaits (λ slot. PathWaits w.old.pages.now addr slot)) result }
 {
     match read_path(w.pages, addr) {
         PathRead::Text(path) => match open_from(w, fd, path.as_slice(), flags) {
@@ -79,7 +82,8 @@ pub(crate) fn open(w: &mut World) -> Result<u64, Halt>
     requires { FitParts (view_of w.old) }
     ensures kept { Kept w.old w.new }
     ensures does { Does open_call (view_of w.old) (view_of w.new) result }
-    ensures needs { NeedsPathIn (view_of w.new) (rdi w.new.gprs.now) result }
+    ensures needs { NeedsFirst Call.Open (view_of w.new) result }
+    ensures exact { PassedIn (λ _. PassesFirst Call.Open (view_of w.old)) result }
 {
     let addr = w.rdi();
     let flags = low(w.rsi());
@@ -92,7 +96,8 @@ pub(crate) fn openat(w: &mut World) -> Result<u64, Halt>
     requires { FitParts (view_of w.old) }
     ensures kept { Kept w.old w.new }
     ensures does { Does openat_call (view_of w.old) (view_of w.new) result }
-    ensures needs { NeedsPathIn (view_of w.new) (rsi w.new.gprs.now) result }
+    ensures needs { NeedsFirst Call.Openat (view_of w.new) result }
+    ensures exact { PassedIn (λ _. PassesFirst Call.Openat (view_of w.old)) result }
 {
     let fd = low(w.rdi());
     let addr = w.rsi();

@@ -1,11 +1,12 @@
 //! The calls that write a record of fixed length, and those on the bases of FS and GS.
 ghost use Rattle.std.specs.Prelude.{◌≡◌, length};
 ghost use Rattle.machine_state.specs.Memory.{number_bytes};
-ghost use Rattle.linux_calls.specs.Call.{rsi, rdi};
 ghost use Rattle.linux_calls.specs.Records.{put_record as put_record_call, fstat_call, stat_bytes, uname_call, uname_bytes};
 ghost use Rattle.linux_calls.specs.Records.{arch_prctl_call, clock_gettime_call, is_clock as is_clock_spec, time_bytes};
 ghost use Rattle.linux_calls.specs.View.{view_of, FitParts};
-ghost use Rattle.linux_calls.specs.Waiting.{NeedsRecordIn};
+ghost use Rattle.linux_calls.specs.Waiting.{NeedsFirst, NeedsRecord, NeedsRecordIn};
+ghost use Rattle.linux_calls.specs.Passing.{NeverWaits, PassedIn, PassesFirst};
+ghost use Rattle.linux_calls.specs.declared.kinds.Call.{Call};
 ghost use Rattle.linux_calls.specs.Following.{Does, Kept, halt_of as halt_of_spec};
 
 use crate::errnos::{EFAULT, EPERM};
@@ -49,6 +50,7 @@ fn put_record(w: &mut World, addr: u64, bytes: &[u8]) -> Result<u64, Halt>
     ensures kept { Kept w.old w.new }
     ensures does { Does (put_record_call addr bytes.now) (view_of w.old) (view_of w.new) result }
     ensures needs { NeedsRecordIn (view_of w.new) addr (length bytes.now) result }
+    ensures exact { PassedIn (λ _. NeverWaits (λ slot. NeedsRecord (view_of w.old) addr (length bytes.now) slot)) result }
 {
     match w.pages.write(addr, bytes) {
         Ok(()) => Ok(0),
@@ -81,7 +83,8 @@ pub(crate) fn fstat(w: &mut World) -> Result<u64, Halt>
     requires { FitParts (view_of w.old) }
     ensures kept { Kept w.old w.new }
     ensures does { Does fstat_call (view_of w.old) (view_of w.new) result }
-    ensures needs { NeedsRecordIn (view_of w.new) (rsi w.new.gprs.now) 144 result }
+    ensures needs { NeedsFirst Call.Fstat (view_of w.new) result }
+    ensures exact { PassedIn (λ _. PassesFirst Call.Fstat (view_of w.old)) result }
 {
     let fd = low(w.rdi());
     let addr = w.rsi();
@@ -117,7 +120,8 @@ pub(crate) fn uname(w: &mut World) -> Result<u64, Halt>
     requires { FitParts (view_of w.old) }
     ensures kept { Kept w.old w.new }
     ensures does { Does uname_call (view_of w.old) (view_of w.new) result }
-    ensures needs { NeedsRecordIn (view_of w.new) (rdi w.new.gprs.now) 390 result }
+    ensures needs { NeedsFirst Call.Uname (view_of w.new) result }
+    ensures exact { PassedIn (λ _. PassesFirst Call.Uname (view_of w.old)) result }
 {
     let addr = w.rdi();
     let fields = uname_record();
@@ -149,7 +153,8 @@ pub(crate) fn clock_gettime(w: &mut World) -> Result<u64, Halt>
     requires { FitParts (view_of w.old) }
     ensures kept { Kept w.old w.new }
     ensures does { Does clock_gettime_call (view_of w.old) (view_of w.new) result }
-    ensures needs { NeedsRecordIn (view_of w.new) (rsi w.new.gprs.now) 16 result }
+    ensures needs { NeedsFirst Call.ClockGettime (view_of w.new) result }
+    ensures exact { PassedIn (λ _. PassesFirst Call.ClockGettime (view_of w.old)) result }
 {
     if !is_clock(low(w.rdi())) {
         return Err(Halt::Refused(Errno::EINVAL));
@@ -165,6 +170,7 @@ fn put_base(w: &mut World, addr: u64, base: u64) -> Result<u64, Halt>
     ensures kept { Kept w.old w.new }
     ensures does { Does (put_record_call addr (number_bytes 8 base)) (view_of w.old) (view_of w.new) result }
     ensures needs { NeedsRecordIn (view_of w.new) addr 8 result }
+    ensures exact { PassedIn (λ _. NeverWaits (λ slot. NeedsRecord (view_of w.old) addr 8 slot)) result }
 {
     let mut fields = Fields::new();
     fields.word(base);
@@ -177,7 +183,8 @@ pub(crate) fn arch_prctl(w: &mut World) -> Result<u64, Halt>
     requires { FitParts (view_of w.old) }
     ensures kept { Kept w.old w.new }
     ensures does { Does arch_prctl_call (view_of w.old) (view_of w.new) result }
-    ensures needs { NeedsRecordIn (view_of w.new) (rsi w.new.gprs.now) 8 result }
+    ensures needs { NeedsFirst Call.ArchPrctl (view_of w.new) result }
+    ensures exact { PassedIn (λ _. PassesFirst Call.ArchPrctl (view_of w.old)) result }
 {
     let base = w.rsi();
     match low(w.rdi()) {

@@ -1,7 +1,8 @@
 //! Calls at work, one after the other in one guest: each table has the calls with their arguments and what they answer.
 ghost use Rattle.std.specs.Prelude.{◌≡◌, IfOk, OnSome};
 ghost use Rattle.region_map.specs.Calls.{FitPages};
-ghost use Rattle.linux_calls.specs.Waiting.{Begins};
+ghost use Rattle.linux_calls.specs.View.{view_of, FitParts, SameParts};
+ghost use Rattle.linux_calls.specs.Waiting.{Begins, CanGoOn, NeedsAt};
 ghost use Rattle.linux_calls.specs.declared.kinds.Stage.TheVariants.{Start};
 
 mod cases;
@@ -17,9 +18,13 @@ use gpr_flags::{Gprs, RAX, RDI, RDX, RSI};
 use guest_files::{Entry, Files};
 use guest_pages::Pages;
 use host_edge::{HostCall, MemSink, MemSource};
+use page_fixture::enter_zeros;
 use region_map::Regions;
 use std::alloc::{AllocError, Global};
 use std::test::Fail;
+
+/// More pages than a call of the tables needs.
+const MOST_ENTERED: u32 = 8;
 
 /// A guest's parts, before a call.
 #[derive(Drop)]
@@ -35,10 +40,36 @@ struct Guest {
     steps: u64,
 }
 
-// Makes a call.
+// Answers a call, in which so many pages that it waits for are entered.
+fn answer_with(
+    w: &mut World,
+    most: u32,
+    input: &mut MemSource,
+    out: &mut MemSink,
+    err: &mut MemSink,
+) -> CallEnd
+    requires can_go_on { CanGoOn (view_of w.old) }
+    requires fit { FitParts (view_of w.old) }
+    ensures parts { SameParts w.old w.new }
+    ensures fit { FitParts (view_of w.new) }
+    ensures needs { NeedsAt (view_of w.new) result }
+{
+    for _ in 0..most {
+        match answer(w, input, out, err) {
+            CallEnd::Need(slot) => enter_zeros(w.pages, slot),
+            CallEnd::Value(value) => return CallEnd::Value(value),
+            CallEnd::Exit(code) => return CallEnd::Exit(code),
+            CallEnd::Host(call) => return CallEnd::Host(call),
+        }
+    }
+    answer(w, input, out, err)
+}
+
+// Makes a call, in which so many pages are entered.
 fn call(
     guest: &mut Guest,
     step: &Step,
+    most: u32,
     input: &mut MemSource,
     out: &mut MemSink,
     err: &mut MemSink,
@@ -67,7 +98,7 @@ fn call(
         progress: &mut guest.progress,
         steps,
     };
-    answer(&mut w, input, out, err)
+    answer_with(&mut w, most, input, out, err)
 }
 
 // How many calls of a table answer as it says, up to the first that doesn't.
@@ -83,7 +114,7 @@ fn play(
     ensures fit { FitPages guest.new.pages guest.new.regions.regions }
 {
     for (index, step) in steps.iter().enumerate() {
-        match call(guest, step, input, out, err) {
+        match call(guest, step, MOST_ENTERED, input, out, err) {
             CallEnd::Value(value) => {
                 if value != step.2 {
                     return index;
@@ -265,19 +296,19 @@ fn regions_run_out(rt: HostRuntime) -> Result<(), Fail> {
     Ok(())
 }
 
-// How a call ends behind another that is answered, in a guest with so many frames and 64 pages.
+// How a call in which so many pages are entered ends behind another that is answered.
 fn second(
     alloc: Global,
-    frames: u32,
+    most: u32,
     first: &Step,
     then: &Step,
     out: &mut MemSink,
 ) -> Result<CallEnd, Fail> {
     let mut input = MemSource::new(alloc, b"", 1, &[])?;
     let mut err = MemSink::new(alloc, 100, &[])?;
-    let mut guest = make_guest(alloc, frames, 64)?;
-    match call(&mut guest, first, &mut input, out, &mut err) {
-        CallEnd::Value(_) => Ok(call(&mut guest, then, &mut input, out, &mut err)),
+    let mut guest = make_guest(alloc, 64, 64)?;
+    match call(&mut guest, first, 0, &mut input, out, &mut err) {
+        CallEnd::Value(_) => Ok(call(&mut guest, then, most, &mut input, out, &mut err)),
         CallEnd::Exit(_) | CallEnd::Need(_) | CallEnd::Host(_) => Err(Fail::from("no answer")),
     }
 }
@@ -289,22 +320,22 @@ fn calls_end_the_guest_wait_and_fail(rt: HostRuntime) -> Result<(), Fail> {
     let pages = (9, [0x10000, 0x9000, 3, 0x32, 0, 0], 0x10000);
     let exit = (60, [0x1FF, 0, 0, 0, 0, 0], 0);
     assert_eq!(rt;
-        second(alloc, 64, &pages, &exit, &mut out)?,
+        second(alloc, 0, &pages, &exit, &mut out)?,
         CallEnd::Exit(0xFF)
     );
     let exit_group = (231, [3, 0, 0, 0, 0, 0], 0);
     assert_eq!(rt;
-        second(alloc, 64, &pages, &exit_group, &mut out)?,
+        second(alloc, 0, &pages, &exit_group, &mut out)?,
         CallEnd::Exit(3)
     );
     let away = (63, [0x18000, 0, 0, 0, 0, 0], 0);
     assert_eq!(rt;
-        second(alloc, 8, &pages, &away, &mut out)?,
+        second(alloc, 0, &pages, &away, &mut out)?,
         CallEnd::Need(55)
     );
     let write = (1, [1, 0x10000, 4, 0, 0, 0], 4);
     assert_eq!(rt;
-        second(alloc, 64, &pages, &write, &mut out)?,
+        second(alloc, 1, &pages, &write, &mut out)?,
         CallEnd::Host(HostCall::PutOut)
     );
     assert!(rt; out.bytes() == b"\0\0".as_slice());

@@ -18,6 +18,7 @@ ghost use Rattle.linux_calls.specs.View.{view_of, FitParts, SameParts};
 ghost use Rattle.linux_calls.specs.Following.{Comes, DoesPart, Ends, EndsAt, IsCaused, IsLowStop, Kept, Works, failed_in, faults};
 ghost use Rattle.linux_calls.specs.Waiting.{CanMove, HasOther, IsOne, NeedsIn};
 ghost use Rattle.linux_calls.specs.Units.{WaitsIn, moving_from, standing_at};
+ghost use Rattle.linux_calls.specs.Passing.{PassedIn, PassesParts, PassesTransfer};
 
 use crate::errnos::EFAULT;
 use crate::kinds::{Halt, Stage, Transfer};
@@ -63,6 +64,7 @@ fn take_on<S: Source>(w: &mut World, from: u64, input: &mut S) -> Result<u64, Ha
     ensures needs { NeedsIn (view_of w.new) result }
     ensures waits { WaitsIn (standing_at (view_of w.old) (moving_from w.old.progress.now.pieces from)) (view_of w.new) result }
     ensures cause { (o e : ℕ) → IsCaused (failed_in result) (faults (S.faults input.old) o e) (faults (S.faults input.new) o e) }
+    ensures exact { PassedIn (λ stop. PassesParts Transfer.Takes (view_of w.old) w.old.progress.now.pieces from stop) result }
 {
     let stop = take_pieces(w.pages, w.progress.pieces(), from, input);
     finish(w, stop, HostCall::Take)
@@ -80,6 +82,7 @@ fn out_on<O: Sink>(w: &mut World, from: u64, out: &mut O) -> Result<u64, Halt>
     ensures needs { NeedsIn (view_of w.new) result }
     ensures waits { WaitsIn (standing_at (view_of w.old) (moving_from w.old.progress.now.pieces from)) (view_of w.new) result }
     ensures cause { (t e : ℕ) → IsCaused (failed_in result) (faults t (O.faults out.old) e) (faults t (O.faults out.new) e) }
+    ensures exact { PassedIn (λ stop. PassesParts Transfer.PutsOut (view_of w.old) w.old.progress.now.pieces from stop) result }
 {
     let stop = put_pieces(w.pages, w.progress.pieces(), from, out);
     finish(w, stop, HostCall::PutOut)
@@ -97,6 +100,7 @@ fn err_on<E: Sink>(w: &mut World, from: u64, err: &mut E) -> Result<u64, Halt>
     ensures needs { NeedsIn (view_of w.new) result }
     ensures waits { WaitsIn (standing_at (view_of w.old) (moving_from w.old.progress.now.pieces from)) (view_of w.new) result }
     ensures cause { (t o : ℕ) → IsCaused (failed_in result) (faults t o (E.faults err.old)) (faults t o (E.faults err.new)) }
+    ensures exact { PassedIn (λ stop. PassesParts Transfer.PutsErr (view_of w.old) w.old.progress.now.pieces from stop) result }
 {
     let stop = put_pieces(w.pages, w.progress.pieces(), from, err);
     finish(w, stop, HostCall::PutErr)
@@ -157,6 +161,8 @@ fn read_on(w: &mut World, fd: u32, at: u64, moves: bool, from: u64) -> Result<u6
     ensures does { DoesPart (reads_rest fd at moves w.old.progress.now.pieces from) (view_of w.old) (view_of w.new) result }
     ensures needs { NeedsIn (view_of w.new) result }
     ensures waits { WaitsIn (standing_at (view_of w.old) (moving_from w.old.progress.now.pieces from)) (view_of w.new) result }
+    ensures exact { PassedIn (λ stop.
+        PassesParts (Transfer.Reads fd at moves) (view_of w.old) w.old.progress.now.pieces from stop) result }
 {
     known(w.files);
     let stop = read_file(w.pages, w.progress.pieces(), from, w.files, fd, at);
@@ -173,6 +179,8 @@ fn write_on(w: &mut World, fd: u32, at: u64, moves: bool, from: u64) -> Result<u
     ensures does { DoesPart (writes_rest fd at moves w.old.progress.now.pieces from) (view_of w.old) (view_of w.new) result }
     ensures needs { NeedsIn (view_of w.new) result }
     ensures waits { WaitsIn (standing_at (view_of w.old) (moving_from w.old.progress.now.pieces from)) (view_of w.new) result }
+    ensures exact { PassedIn (λ stop.
+        PassesParts (Transfer.Writes fd at moves) (view_of w.old) w.old.progress.now.pieces from stop) result }
 {
     known(w.files);
     let stop = write_file(w.pages, w.progress.pieces(), from, w.files, fd, at);
@@ -196,6 +204,7 @@ fn draw_on(w: &mut World, from: u64) -> Result<u64, Halt>
     ensures does { DoesPart (draws_rest w.old.progress.now.pieces from) (view_of w.old) (view_of w.new) result }
     ensures needs { NeedsIn (view_of w.new) result }
     ensures waits { WaitsIn (standing_at (view_of w.old) (moving_from w.old.progress.now.pieces from)) (view_of w.new) result }
+    ensures exact { PassedIn (λ stop. PassesParts Transfer.Draws (view_of w.old) w.old.progress.now.pieces from stop) result }
 {
     let piece = only(w.progress.pieces());
     let stop = draw_bytes(w.pages, piece, from, w.random);
@@ -214,10 +223,11 @@ pub(crate) fn move_on<S: Source, O: Sink, E: Sink>(
     requires is { transfer_of w.old.gprs.now w.old.files.now from ≡ Some transfer }
     requires can { CanMove transfer (perms_in (table_of w.old.pages.now)) w.old.files.now w.old.progress.now.pieces from }
     requires fit { FitParts (view_of w.old) }
-    ensures { Works (moving_from w.old.progress.now.pieces from) (transfer_rest transfer w.old.progress.now.pieces from) w.old w.new
+    ensures works { Works (moving_from w.old.progress.now.pieces from) (transfer_rest transfer w.old.progress.now.pieces from) w.old w.new
         (streams (S.left input.old) (O.taken out.old) (E.taken err.old)) (streams (S.left input.new) (O.taken out.new) (E.taken err.new))
         (faults (S.faults input.old) (O.faults out.old) (E.faults err.old))
         (faults (S.faults input.new) (O.faults out.new) (E.faults err.new)) result }
+    ensures exact { PassedIn (λ stop. PassesParts transfer (view_of w.old) w.old.progress.now.pieces from stop) result }
 {
     match transfer {
         Transfer::Takes => take_on(w, from, input),
@@ -308,10 +318,11 @@ pub(crate) fn begin<S: Source, O: Sink, E: Sink>(
     requires one { IsOne transfer w.old.progress.now.pieces }
     requires most { asked w.old.progress.now.pieces ≤ most_asked }
     requires fit { FitParts (view_of w.old) }
-    ensures { Works (moving_from w.old.progress.now.pieces 0) (transferred transfer w.old.progress.now.pieces) w.old w.new
+    ensures works { Works (moving_from w.old.progress.now.pieces 0) (transferred transfer w.old.progress.now.pieces) w.old w.new
         (streams (S.left input.old) (O.taken out.old) (E.taken err.old)) (streams (S.left input.new) (O.taken out.new) (E.taken err.new))
         (faults (S.faults input.old) (O.faults out.old) (E.faults err.old))
         (faults (S.faults input.new) (O.faults out.new) (E.faults err.new)) result }
+    ensures exact { PassedIn (λ stop. PassesTransfer (Some transfer) (view_of w.old) w.old.progress.now.pieces stop) result }
 {
     let count = total_len(w.progress.pieces());
     match check(w.files, transfer, count) {
@@ -337,10 +348,11 @@ pub(crate) fn transfer_call<S: Source, O: Sink, E: Sink>(
 ) -> Result<u64, Halt>
     requires is { transfer_of w.old.gprs.now w.old.files.now 0 ≡ transfer }
     requires fit { FitParts (view_of w.old) }
-    ensures { Works (moving_from (named_piece piece.addr piece.len) 0) (begun transfer (named_piece piece.addr piece.len)) w.old w.new
+    ensures works { Works (moving_from (named_piece piece.addr piece.len) 0) (begun transfer (named_piece piece.addr piece.len)) w.old w.new
         (streams (S.left input.old) (O.taken out.old) (E.taken err.old)) (streams (S.left input.new) (O.taken out.new) (E.taken err.new))
         (faults (S.faults input.old) (O.faults out.old) (E.faults err.old))
         (faults (S.faults input.new) (O.faults out.new) (E.faults err.new)) result }
+    ensures exact { PassedIn (λ stop. PassesTransfer transfer (view_of w.old) (named_piece piece.addr piece.len) stop) result }
 {
     match transfer {
         Some(transfer) => {

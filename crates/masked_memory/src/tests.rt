@@ -6,6 +6,7 @@ use gpr_flags::has_bit;
 use guest_pages::{Pages, Perms};
 use machine_state::{Kind, Miss};
 use num_lanes::Vec64;
+use page_fixture::map_in_frame;
 use std::alloc::Global;
 use std::process::Abort;
 use std::test::Fail;
@@ -27,10 +28,13 @@ const NUMBERS: [u8; 16] = [
 fn pages_of(rt: &impl Abort, alloc: Global) -> Result<Pages, Fail> {
     let mut pages = Pages::new(alloc, 8, 16)?;
     for addr in [0, 0x10_0000, GUARDED, 0x30_0000, SEAM] {
-        assert_eq!(rt; pages.map_page(addr, Perms(3)), Ok(()));
+        assert_eq!(rt; map_in_frame(&mut pages, addr, Perms(3)), Ok(()));
     }
-    assert_eq!(rt; pages.map_page(0x10_2000, Perms(1)), Ok(()));
-    assert_eq!(rt; pages.map_page(GUARDED + 0x1000, Perms(1)), Ok(()));
+    assert_eq!(rt; map_in_frame(&mut pages, 0x10_2000, Perms(1)), Ok(()));
+    assert_eq!(rt;
+        map_in_frame(&mut pages, GUARDED + 0x1000, Perms(1)),
+        Ok(())
+    );
     for addr in [0, LAST, GUARDED + 0xFF0] {
         assert_eq!(rt; pages.write(addr, &NUMBERS), Ok(()));
     }

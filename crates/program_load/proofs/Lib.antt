@@ -1,3 +1,4 @@
 pub mod PageLemmas
+pub mod FillLemmas
 pub mod LoadLemmas
 mod Examples

@@ -1,5 +1,5 @@
 -- What the memory of a program holds once its segments are loaded.
-use Rattle.std.proofs.Common.{◌≡◌, ℕ, zero, suc, ◌+◌, ◌-◌, ◌*◌, ◌/◌, ◌<◌, ◌≤◌, Bool, true, false, cond, List, [], ◌∷◌, ◌++◌, length, All, refl, sym, ◌∙◌, ap, arith, ⊎_elim, get_or, take, nat_le, nat_lt, ◌&&◌}
+use Rattle.std.proofs.Common.{◌≡◌, ℕ, zero, suc, ◌+◌, ◌-◌, ◌*◌, ◌/◌, ◌<◌, ◌≤◌, Bool, true, false, cond, List, [], ◌∷◌, ◌++◌, length, All, refl, sym, ◌∙◌, ap, arith, ⊎_elim, get_or, take, nat_le, nat_lt, ◌&&◌, Option, Some, slice_range}
 use Rattle.std.specs.List.{fold}
 use Rattle.std.proofs.lemmas.Bool.{cases_lt}
 use Rattle.std.proofs.lemmas.List.{take_more, length-take-le}
@@ -9,10 +9,12 @@ use Rattle.machine_state.specs.declared.kinds.Region.{Region}
 use Rattle.machine_state.specs.Memory.{page_size, Swap, written}
 use Rattle.machine_state.specs.Regions.{AreRegions, page_sum, nature_at, perms_of, most_regions}
 use Rattle.machine_state.proofs.MemoryLemmas.{below_write, above_write}
+use Rattle.host_edge.specs.Files.{Held, Becomes}
 use Rattle.guest_pages.specs.Table.{perms_in}
 use Rattle.guest_pages.specs.Pages.{PagesValue, table_of, byte_of, memory_of}
 use Rattle.region_map.specs.declared.kinds.Change.TheVariants.{Map, Protect}
 use Rattle.region_map.specs.Ranges.{page_end, is_in, changed_regions, IsAfter}
+use Rattle.region_map.specs.Changes.{AreChanged}
 use Rattle.region_map.specs.Calls.{FitPages, RegionsValue}
 use Rattle.region_map.proofs.After.{is_after}
 use Rattle.region_map.proofs.Bounds.{changed_bounds}
@@ -22,8 +24,9 @@ use Rattle.elf_image.specs.Segments.{first_page, end_page, page_count, page_sum 
 use Rattle.start_stack.specs.Stack.{stack_top, stack_size, stack_pointer}
 use Rattle.start_stack.proofs.StackLemmas.{stack-length}
 use Rattle.program_load.specs.Load.{Program, ArePartsOf, with_segment, has_byte, file_byte, first_regions, first_memory, stack_first, stack_end}
-use Rattle.program_load.specs.Loading.{AreReady, HaveRoom, with_zeros, with_bytes}
-use Rattle.program_load.proofs.PageLemmas.{room_maps, mapped_then}
+use Rattle.program_load.specs.Loading.{HaveRoom, HaveBytes, with_zeros, with_bytes}
+use Rattle.program_load.proofs.PageLemmas.{room_maps, mapped_then, mapped_bytes, protected_bytes, segment_written}
+use Rattle.program_load.proofs.FillLemmas.{bytes_same, bytes_both, bytes_as, bytes_told}
 
 -- ---- regions
 pub record AreFew (regions : List Region) (more pages : ℕ) (all : List Region) : Type 0 where
@@ -79,12 +82,12 @@ segment_regions len first end s old between now is are first_is end_is after sam
     ∙ ap (λ (n : ℕ). changed_regions (Map s.perms true) (first_page s) n old) end_is
 
 -- they are within the limits
-pub segment_room : (len : ℕ) (s : Segment) (pages : PagesValue) (regions : List Region) → IsSegment len s → AreReady pages regions → HaveRoom pages regions (page_count s)
+pub segment_room : (len : ℕ) (s : Segment) (pages : PagesValue) (regions : List Region) → IsSegment len s → FitPages pages regions → HaveRoom pages regions (page_count s)
     → (length (with_segment regions s) ≤ most_regions) × (page_sum (with_segment regions s) ≤ length pages.slots)
-segment_room len s pages regions is ready room =
+segment_room len s pages regions is fit room =
     let some = is.some in
     let high = is.high in
-    room_maps pages regions s.perms true (first_page s) (end_page s) ready.fit.perms.listed is.perms (omega arith) (omega arith) room
+    room_maps pages regions s.perms true (first_page s) (end_page s) fit.perms.listed is.perms (omega arith) (omega arith) room
 
 -- ---- bytes
 -- a segment has no byte on a page that isn't its own
@@ -165,6 +168,49 @@ bytes_more bytes len xs i d byte addr lt each asc so_far =
     ∙ file_byte-more bytes len (take i xs) s addr (All-take (IsSegment len) i xs each) (ascending-at xs i d lt asc)
     ∙ ap (λ (ys : List Segment). file_byte bytes ys addr) (sym (take_more xs i d lt))
 
+-- the bytes once a segment's pages are mapped, filled and given their permissions
+pub segment_bytes : (old mapped filled new : PagesValue) (held after : Option Held) (bytes : List ℕ) (s : Segment) (first end : ℕ) (part : List ℕ) → first ≡ first_page s → end ≡ end_page s
+    → part ≡ slice_range bytes s.file_at (s.file_at + s.file_len) → s.file_at + s.file_len ≤ length bytes → AreChanged (Map (record { 0 = 3 }) true) (is_in first end) old mapped
+    → Becomes (HaveBytes (λ byte. written byte s.addr part) mapped filled) held after → AreChanged (Protect s.perms) (is_in first end) filled new
+    → Becomes (HaveBytes (with_bytes bytes s) old new) held after
+segment_bytes old mapped filled new held after bytes s first end part first_is end_is part_is within one written_is two =
+    let zeros : Becomes (HaveBytes (with_zeros first end) old mapped) held held =
+    bytes_same (with_zeros first end) old mapped held (λ swap i addr. mapped_bytes (record { 0 = 3 }) true first end old mapped one swap addr i) in
+    let given : Becomes (HaveBytes (λ byte. byte) filled new) after after = bytes_same (λ byte. byte) filled new after (λ swap i addr. protected_bytes s.perms first end filled new two swap addr i) in
+    let filled_is = bytes_both (with_zeros first end) (λ byte. written byte s.addr part) old mapped filled held held after zeros written_is in
+    bytes_as (λ byte. written (with_zeros first end byte) s.addr part) (with_bytes bytes s) old new held after
+    (λ byte addr.
+    ap (λ (bs : List ℕ). written (with_zeros first end byte) s.addr bs addr) part_is
+    ∙ segment_written bytes s (with_zeros first end byte) addr within
+    ∙ ap (λ (n : ℕ). cond (has_byte s addr) (get_or bytes (s.file_at + (addr - s.addr)) 0) (with_zeros n end byte addr)) first_is
+    ∙ ap (λ (n : ℕ). cond (has_byte s addr) (get_or bytes (s.file_at + (addr - s.addr)) 0) (with_zeros (first_page s) n byte addr)) end_is)
+    (bytes_both (λ byte. written (with_zeros first end byte) s.addr part) (λ byte. byte) old filled new held after after filled_is given)
+
+-- before the first segment all bytes are 0
+pub bytes_first : (bytes : List ℕ) (pages : PagesValue) (held : Option Held) → ((swap : Swap) (addr : ℕ) → byte_of pages swap addr ≡ 0)
+    → Becomes (HaveBytes (λ byte. file_byte bytes []) pages pages) held held
+bytes_first bytes pages held zeros = bytes_same (λ byte. file_byte bytes []) pages pages held (λ swap i addr. (zeros swap addr ∙ sym (file_byte-nil bytes addr)) i)
+
+-- and after one more they are the file's
+pub bytes_next : (bytes : List ℕ) (len : ℕ) (xs : List Segment) (i : ℕ) (d : Segment) (old between new : PagesValue) (held middle after : Option Held) → i < length xs → All (IsSegment len) xs → AreAscending xs
+    → Becomes (HaveBytes (λ byte. file_byte bytes (take i xs)) old between) held middle → Becomes (HaveBytes (with_bytes bytes (get_or xs i d)) between new) middle after
+    → Becomes (HaveBytes (λ byte. file_byte bytes (take (i + 1) xs)) old new) held after
+bytes_next bytes len xs i d old between new held middle after lt each ascending a b =
+    bytes_as (λ byte. with_bytes bytes (get_or xs i d) (file_byte bytes (take i xs))) (λ byte. file_byte bytes (take (i + 1) xs)) old new held after
+    (λ byte addr. bytes_more bytes len xs i d (file_byte bytes (take i xs)) addr lt each ascending refl)
+    (bytes_both (λ byte. file_byte bytes (take i xs)) (with_bytes bytes (get_or xs i d)) old between new held middle after a b)
+
+-- the stack's pages are mapped and filled
+pub stack_bytes : (old mapped filled : PagesValue) (held after : Option Held) (from : ℕ) (start : List ℕ) → from ≡ stack_top - length start
+    → AreChanged (Map (record { 0 = 3 }) false) (is_in stack_first stack_end) old mapped → Becomes (HaveBytes (λ byte. written byte from start) mapped filled) held after
+    → Becomes (HaveBytes (λ byte. written (with_zeros stack_first stack_end byte) (stack_top - length start) start) old filled) held after
+stack_bytes old mapped filled held after from start from_is one written_is =
+    let zeros : Becomes (HaveBytes (with_zeros stack_first stack_end) old mapped) held held =
+    bytes_same (with_zeros stack_first stack_end) old mapped held (λ swap i addr. mapped_bytes (record { 0 = 3 }) false stack_first stack_end old mapped one swap addr i) in
+    bytes_as (λ byte. written (with_zeros stack_first stack_end byte) from start) (λ byte. written (with_zeros stack_first stack_end byte) (stack_top - length start) start) old filled held after
+    (λ byte addr. ap (λ (n : ℕ). written (with_zeros stack_first stack_end byte) n start addr) from_is)
+    (bytes_both (with_zeros stack_first stack_end) (λ byte. written byte from start) old mapped filled held held after zeros written_is)
+
 -- ---- the first memory
 -- no segment has a byte on the stack's pages
 stack_zeros : (bytes : List ℕ) (len : ℕ) (xs : List Segment) (addr : ℕ) (byte : ℕ) → All (IsSegment len) xs → byte ≡ file_byte bytes xs addr
@@ -209,6 +255,19 @@ first_memory-is pages swap regions program bytes image start len before are each
         ∙ ap (λ (im : Image). written (file_byte program.bytes im.segments.items) (stack_top - length start) start addr) are.image_is
         ∙ ap (λ (n : ℕ). written (file_byte program.bytes program.image.segments.items) (stack_top - n) start addr) size
         ∙ ap (λ (st : List ℕ). written (file_byte program.bytes program.image.segments.items) (stack_pointer program.args program.env) st addr) are.stack_is
+
+-- segments and stack are loaded one after the other
+pub loaded_memory : (blank filled pages : PagesValue) (before middle after : Option Held) (told : Held) (regions : List Region) (program : Program) (bytes : List ℕ) (image : Image) (start : List ℕ)
+    (xs : List Segment) (len : ℕ) → ArePartsOf program bytes image start → All (IsSegment len) image.segments.items → xs ≡ image.segments.items → regions ≡ first_regions image → FitPages pages regions
+    → Becomes (HaveBytes (λ byte. file_byte bytes xs) blank filled) before middle
+    → Becomes (HaveBytes (λ byte. written (with_zeros stack_first stack_end byte) (stack_top - length start) start) filled pages) middle after
+    → after ≡ Some told → memory_of pages told.page ≡ first_memory program
+loaded_memory blank filled pages before middle after told regions program bytes image start xs len are each xs_are regions_are fit segments stack told_is =
+    let put = λ (byte : ℕ → ℕ). written (with_zeros stack_first stack_end byte) (stack_top - length start) start in
+    let is = bytes_told (λ byte. put (file_byte bytes xs)) blank pages before after told
+    (bytes_both (λ byte. file_byte bytes xs) put blank filled pages before middle after segments stack) told_is in
+    first_memory-is pages told.page regions program bytes image start len (file_byte bytes xs) are each regions_are fit
+    (λ addr. ap (λ (ys : List Segment). file_byte bytes ys addr) xs_are) is.1
 
 -- regions with an empty heap, part by part
 pub regions_value : (value : RegionsValue) (regions : List Region) (heap : ℕ) → value.regions ≡ regions → value.heap ≡ heap → value.at ≡ heap

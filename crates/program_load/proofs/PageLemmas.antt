@@ -8,24 +8,22 @@ use Rattle.machine_state.specs.declared.kinds.Kind.TheVariants.{Write}
 use Rattle.machine_state.specs.declared.kinds.Region.{Region}
 use Rattle.machine_state.specs.declared.permissions.Perms.{Perms}
 use Rattle.machine_state.specs.Memory.{page_size, Permissions, Swap, first_miss, miss_at, is_noncanonical, written}
-use Rattle.machine_state.specs.Regions.{AreRegions, nature_at, page_sum, most_regions, FitRegions}
+use Rattle.machine_state.specs.Regions.{AreRegions, nature_at, page_sum, most_regions}
 use Rattle.machine_state.proofs.MemoryLemmas.{first_miss-suc, first_miss-zero, written_below, written_in, written_above, below_write, in_write, above_write, length_slice}
-use Rattle.guest_pages.specs.Table.{Table, Mapped, perms_in, away_at, blocked}
+use Rattle.guest_pages.specs.Table.{Mapped, perms_in}
 use Rattle.guest_pages.specs.Pages.{PagesValue, table_of, byte_of}
-use Rattle.guest_pages.specs.Changes.{IsWritten}
-use Rattle.guest_pages.proofs.Walks.{blocked_resident}
 use Rattle.region_map.specs.declared.kinds.Change.TheVariants.{Map, Protect}
 use Rattle.region_map.specs.declared.kinds.ProtectFault.{ProtectFault}
 use Rattle.region_map.specs.declared.kinds.ProtectFault.TheVariants.{Hole, Full}
 use Rattle.region_map.specs.Ranges.{page_end, is_in, becomes, changed_regions, IsAfter}
 use Rattle.region_map.specs.Changes.{AreChanged}
-use Rattle.region_map.specs.Calls.{PassLimits, IsProtectFault, is_mapped}
+use Rattle.region_map.specs.Calls.{FitPages, PassLimits, IsProtectFault, is_mapped}
 use Rattle.region_map.proofs.After.{is_after}
 use Rattle.region_map.proofs.Bounds.{changed_bounds}
 use Rattle.region_map.proofs.Unique.{regions_unique}
 use Rattle.elf_image.specs.declared.kinds.Segment.{Segment}
 use Rattle.program_load.specs.Load.{has_byte}
-use Rattle.program_load.specs.Loading.{AreReady, HaveRoom, with_zeros}
+use Rattle.program_load.specs.Loading.{HaveRoom, with_zeros}
 
 -- ---- why no call is refused
 -- where there is room, a range can be mapped
@@ -46,10 +44,10 @@ within_limits pages regions few room pass = ⊎_elim
     (λ (many : length pages.slots < page_sum regions). omega arith)
     pass
 
-pub map_allowed : (pages : PagesValue) (regions : List Region) (perms : Perms) (file : Bool) (first end : ℕ) → AreReady pages regions → perms.0 < 8
+pub map_allowed : (pages : PagesValue) (regions : List Region) (perms : Perms) (file : Bool) (first end : ℕ) → FitPages pages regions → perms.0 < 8
     → first < end → end ≤ page_end → HaveRoom pages regions (end - first) → PassLimits pages (changed_regions (Map perms file) first end regions) → ⊥
-map_allowed pages regions perms file first end ready set lt low room pass =
-    let both = room_maps pages regions perms file first end ready.fit.perms.listed set lt low room in
+map_allowed pages regions perms file first end fit set lt low room pass =
+    let both = room_maps pages regions perms file first end fit.perms.listed set lt low room in
     within_limits pages (changed_regions (Map perms file) first end regions) both.0 both.1 pass
 
 -- where all pages of a range are mapped and the limits are kept, it can be given permissions
@@ -157,18 +155,3 @@ segment_written bytes segment byte addr within =
     written_above byte segment.addr part addr (omega arith) ∙ sym (rw (above_write segment.addr addr (segment.addr + segment.file_len) high past) refl))
     (cases_lt addr (segment.addr + segment.file_len)))
     (cases_lt addr segment.addr)
-
--- ---- pages that are ready stay so
-pub written_ready : (old new : PagesValue) (regions : List Region) (addr : ℕ) (bytes : List ℕ) → IsWritten old new addr bytes → AreReady old regions → AreReady new regions
-written_ready old new regions addr bytes w ready = record {
-  fit = record {
-    perms = subst (λ (t : Table). FitRegions (perms_in t) regions) (sym w.table) ready.fit.perms;
-    count = w.count ∙ ready.fit.count;
-  };
-  resident = λ page. ap (λ (t : Table). away_at (t page)) w.table ∙ ready.resident page;
-  frames = w.size.frames ∙ ready.frames ∙ sym w.size.pages;
-}
-
-pub ready_open : (pages : PagesValue) (regions : List Region) (addr len : ℕ) → AreReady pages regions → first_miss (perms_in (table_of pages)) Write addr len ≡ None
-    → blocked (table_of pages) Write addr len ≡ None
-ready_open pages regions addr len ready none = blocked_resident (table_of pages) Write addr len ready.resident ∙ none

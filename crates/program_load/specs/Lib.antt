@@ -1,2 +1,3 @@
 pub mod Load
+pub mod Faults
 pub mod Loading

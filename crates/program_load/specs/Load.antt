@@ -5,7 +5,7 @@ use Rattle.gpr_flags.specs.Flags.{no_flags}
 use Rattle.machine_state.specs.Memory.{page_size, Memory, written}
 use Rattle.machine_state.specs.Regions.{nature_at, perms_of}
 use Rattle.machine_state.specs.State.{State, initial_extended}
-use Rattle.machine_state.specs.World.{World, default_action, no_alternate, first_descriptors}
+use Rattle.machine_state.specs.World.{World, GuestFile, default_action, no_alternate, first_descriptors}
 use Rattle.machine_state.specs.declared.kinds.Region.{Region}
 use Rattle.region_map.specs.declared.kinds.Change.TheVariants.{Map}
 use Rattle.region_map.specs.Ranges.{changed_regions}
@@ -21,10 +21,6 @@ pub record Program : Type 0 where
   pub args : List (List ℕ)
   pub env : List (List ℕ)
   pub seed : ℕ
-
--- the limit on the bytes of a guest file (this program's own)
-abbrev pub default_cap : ℕ
-default_cap = 16777216
 
 -- ---- the pages
 -- the regions once the pages of a segment are mapped: they are of a file, with the segment's permissions (ELF-64, segment permissions)
@@ -81,13 +77,13 @@ first_state program = record {
   memory = first_memory program;
 }
 
--- the first world of a program that may map so many pages, from the input that is left, and what stood on output and error output.
--- The heap starts behind the segments, and is empty
-unfoldable pub first_world : Program → (pages : ℕ) → (left out err : List ℕ) → World
-first_world program pages left out err = record {
+-- the first world of a program that may map so many pages, and whose files, each with at most so many bytes, are these; from the
+-- input that is left, and what stood on output and error output. The heap starts behind the segments, and is empty
+unfoldable pub first_world : Program → (pages cap : ℕ) → (files : List GuestFile) → (left out err : List ℕ) → World
+first_world program pages cap files left out err = record {
   state = first_state program;
   pages = pages;
-  cap = default_cap;
+  cap = cap;
   regions = first_regions program.image;
   heap_start = program.image.heap;
   break_at = program.image.heap;
@@ -95,7 +91,7 @@ first_world program pages left out err = record {
   blocked = 0;
   alternate = no_alternate;
   descriptors = first_descriptors;
-  files = [];
+  files = files;
   left = left;
   out = out;
   err = err;

@@ -1,14 +1,14 @@
 -- Pages where a range of them changes.
-use Rattle.std.proofs.Common.{◌≡◌, ◌≢◌, ℕ, ◌+◌, ◌/◌, ◌≤◌, ◌<◌, ◌==◌, Bool, true, false, cond, ◌||◌, ◌&&◌, is_none, length, Option, Some, None, is_some, IsSome, refl, sym, ◌∙◌, ap, subst, arith, ⊎_elim}
+use Rattle.std.proofs.Common.{◌≡◌, ◌≢◌, ℕ, ◌+◌, ◌/◌, ◌≤◌, ◌<◌, ◌==◌, Bool, true, false, cond, ◌||◌, Option, Some, None, is_some, IsSome, refl, sym, ◌∙◌, ap, subst, arith, ⊎_elim}
 use Rattle.std.proofs.lemmas.Bool.{cases_eq, eq-eqb, ne_eqb}
 use Rattle.std.proofs.lemmas.Bool.Decides.{nat_tests, Decides-eqb}
 use Rattle.std.specs.Option.{option_map}
 use Rattle.machine_state.specs.Memory.{page_size, Swap, zeroed}
 use Rattle.machine_state.specs.declared.permissions.Perms.{Perms}
 use Rattle.guest_pages.specs.declared.entry.Mark.{Mark}
-use Rattle.guest_pages.specs.Table.{Mapped, Table, with_entry, in_frame}
+use Rattle.guest_pages.specs.Table.{Mapped, Table, with_entry}
 use Rattle.guest_pages.specs.Pages.{PagesValue, table_of, byte_of, mark_of, mapped_count}
-use Rattle.guest_pages.specs.Changes.{KeepsSize, KeepsPage, IsMapped, IsUnmapped, IsProtected, gets_frame, with_perms, with_mark}
+use Rattle.guest_pages.specs.Changes.{KeepsSize, KeepsPage, IsMapped, IsUnmapped, IsProtected, with_perms, with_mark}
 use Rattle.region_map.specs.declared.kinds.Change.{Change}
 use Rattle.region_map.specs.declared.kinds.Change.TheVariants.{Map, Unmap, Protect}
 use Rattle.region_map.specs.Ranges.{page_end, is_in}
@@ -52,28 +52,20 @@ zero_in : (old new : PagesValue) (page : ℕ) → ((swap : Swap) → byte_of new
 zero_in old new page byte swap addr e = let there : (addr / page_size == page) ≡ true = eq-eqb (addr / page_size) page e in
     ap (λ (f : ℕ → ℕ). f addr) (byte swap) ∙ rw there refl
 
-or_right : (b : Bool) → ((b || true) && true) ≡ true
-or_right true = refl
-or_right false = refl
-
-pub map_changes : (old new : PagesValue) (page : ℕ) (perms : Perms) (file more : Bool) → IsMapped old new page perms.0
-    → in_frame (table_of new page) ≡ (gets_frame old page && (in_frame (table_of old page) || more)) → AreChanged (Map perms file) (λ other. other == page) old new
-map_changes old new page perms file more m framed = record {
+pub map_changes : (old new : PagesValue) (page : ℕ) (perms : Perms) (file : Bool) → IsMapped old new page perms.0 → AreChanged (Map perms file) (λ other. other == page) old new
+map_changes old new page perms file m = record {
   size = m.size;
   inside = λ other e. subst (λ (p : ℕ). IsFresh old new perms.0 p) (sym (is_eq other page e)) fresh;
   outside = λ other e. stay_out old new page other (Some m.entry) _ m.table m.byte m.marks e;
 }
   where
-    here : table_of new page ≡ Some m.entry
-    here = table_in old new page (Some m.entry) m.table
-
     fresh : IsFresh old new perms.0 page
     fresh = record {
       entry = m.entry;
-      table = here;
+      table = table_in old new page (Some m.entry) m.table;
       perms_are = m.perms_are;
+      away = m.away;
       slot_stays = m.slot_stays;
-      frame_stays = λ same e. sym (ap in_frame here) ∙ framed ∙ rw (e, eq-eqb old.frames (length old.slots) same) (or_right (is_none (table_of old page)));
       bytes = zero_in old new page m.byte;
       mark = mark_in old new page _ m.marks;
     }
@@ -161,8 +153,8 @@ stay_change (Map perms file) old between new page size a b = record {
   entry = b.entry;
   table = b.table;
   perms_are = b.perms_are;
+  away = b.away;
   slot_stays = λ mapped e. b.slot_stays mapped (a.table ∙ e);
-  frame_stays = λ same e. b.frame_stays (size.frames ∙ same ∙ sym size.pages) (ap in_frame a.table ∙ e);
   bytes = b.bytes;
   mark = b.mark;
 }
@@ -177,8 +169,8 @@ change_stay (Map perms file) old between new page a b = record {
   entry = a.entry;
   table = b.table ∙ a.table;
   perms_are = a.perms_are;
+  away = a.away;
   slot_stays = a.slot_stays;
-  frame_stays = a.frame_stays;
   bytes = λ swap addr e. b.kept.bytes swap addr e ∙ a.bytes swap addr e;
   mark = b.kept.mark ∙ a.mark;
 }
@@ -197,8 +189,8 @@ change_twice (Map perms file) old between new page size a b = record {
   entry = b.entry;
   table = b.table;
   perms_are = b.perms_are;
+  away = b.away;
   slot_stays = λ mapped e. b.slot_stays a.entry a.table ∙ a.slot_stays mapped e;
-  frame_stays = λ same e. b.frame_stays (size.frames ∙ same ∙ sym size.pages) (ap in_frame a.table ∙ a.frame_stays same e);
   bytes = b.bytes;
   mark = b.mark;
 }
@@ -286,7 +278,3 @@ can_next (Map perms file) from to at old between le lt low can a tallied = λ no
 can_next Unmap from to at old between le lt low can a tallied = tt
 can_next (Protect perms) from to at old between le lt low can a tallied =
     subst (λ (o : Option Mapped). IsSome o) (sym (a.outside at (in_above from at at (omega arith))).table) (can at (in_true from to at le lt))
-
--- as many frames as pages
-pub resident_next : (old between : PagesValue) → KeepsSize old between → old.frames ≡ length old.slots → between.frames ≡ length between.slots
-resident_next old between size e = size.frames ∙ e ∙ sym size.pages

@@ -6,7 +6,7 @@ use Rattle.guest_pages.specs.Table.{Mapped}
 use Rattle.guest_pages.specs.Pages.{PagesValue, table_of, byte_of, mark_of}
 use Rattle.guest_pages.specs.Changes.{away_byte, is_kept}
 use Rattle.guest_pages.specs.Together.{AreClean, NoneSwapped, is_clean}
-use Rattle.guest_pages.proofs.Togethers.{clean_kept, fresh_byte, perms_slot, none_same, ones, zeros}
+use Rattle.guest_pages.proofs.Togethers.{clean_kept, perms_slot, none_same, ones, zeros}
 use Rattle.region_map.specs.declared.kinds.Change.{Change}
 use Rattle.region_map.specs.declared.kinds.Change.TheVariants.{Map, Unmap, Protect}
 use Rattle.region_map.specs.Changes.{Stays, IsChanged, AreChanged}
@@ -23,8 +23,7 @@ clean_change : (change : Change) (old new : PagesValue) (swap : Swap) (page : �
     → table_of new page ≡ Some mapped → is_clean (mark_of new page) ≡ true → (addr : ℕ) → addr / page_size ≡ page
     → byte_of new swap addr ≡ away_byte (is_kept (mark_of new page)) (swap mapped.slot) (addr % page_size)
 clean_change (Map perms file) old new swap page mapped clean fresh is unwritten addr on =
-    let mark = fresh.mark in
-    fresh.bytes swap addr on ∙ rw mark (fresh_byte fresh.entry.resident (swap mapped.slot) (addr % page_size) (rw mark at unwritten))
+    let mark = fresh.mark in absurd (false≢true (rw mark at unwritten))
 clean_change Unmap old new swap page mapped clean gone is unwritten addr on = let mark = gone.mark in absurd (false≢true (rw mark at unwritten))
 clean_change (Protect perms) old new swap page mapped clean has is unwritten addr on =
     let before = perms_slot perms.0 (table_of old page) mapped (sym has.table ∙ is) in

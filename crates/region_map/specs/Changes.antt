@@ -1,24 +1,22 @@
 -- What the pages are where a range of them changes.
-use Rattle.std.specs.Prelude.{ℕ, ◌≡◌, ◌/◌, Bool, true, false, if◌then◌else◌, length, Some, None}
+use Rattle.std.specs.Prelude.{ℕ, ◌≡◌, ◌/◌, Bool, true, false, Some, None}
 use Rattle.std.specs.Option.{option_map}
 use Rattle.machine_state.specs.Memory.{page_size, Swap}
-use Rattle.guest_pages.specs.declared.entry.Mark.TheVariants.{Fresh}
-use Rattle.guest_pages.specs.Table.{Mapped, in_frame}
+use Rattle.guest_pages.specs.Table.{Mapped}
 use Rattle.guest_pages.specs.Pages.{PagesValue, table_of, byte_of, mark_of}
 use Rattle.guest_pages.specs.Changes.{KeepsSize, KeepsPage, with_perms}
 use Rattle.region_map.specs.declared.kinds.Change.{Change}
 use Rattle.region_map.specs.declared.kinds.Change.TheVariants.{Map, Unmap, Protect}
 
--- a page is mapped as zeros with these permissions; where it was mapped it keeps its slot, and where it was in a frame and
--- there are as many frames as pages it is in one
+-- a page is mapped as zeros with these permissions, and is away; where it was mapped it keeps its slot
 pub record IsFresh (old new : PagesValue) (perms page : ℕ) : Type 0 where
   pub entry : Mapped
   pub table : table_of new page ≡ Some entry
   pub perms_are : entry.perms ≡ perms
+  pub away : entry.resident ≡ false
   pub slot_stays : (mapped : Mapped) → table_of old page ≡ Some mapped → entry.slot ≡ mapped.slot
-  pub frame_stays : old.frames ≡ length old.slots → in_frame (table_of old page) ≡ true → entry.resident ≡ true
   pub bytes : (swap : Swap) (addr : ℕ) → addr / page_size ≡ page → byte_of new swap addr ≡ 0
-  pub mark : mark_of new page ≡ (if entry.resident then Some Fresh else None)
+  pub mark : mark_of new page ≡ None
 
 -- a page isn't mapped
 pub record IsGone (new : PagesValue) (page : ℕ) : Type 0 where

@@ -1,9 +1,8 @@
 //! Changes of a range of pages.
-ghost use Rattle.std.specs.Prelude.{◌≡◌, ◌≤◌, ◌<◌, ◌==◌, ◌&&◌, ℕ, true, length, IsSome};
+ghost use Rattle.std.specs.Prelude.{◌≡◌, ◌≤◌, ◌<◌, ◌==◌, ◌&&◌, ℕ, true, IsSome};
 ghost use Rattle.machine_state.specs.Regions.{AreRegions, FitRegions};
 ghost use Rattle.guest_pages.specs.Table.{perms_in};
 ghost use Rattle.guest_pages.specs.Pages.{table_of};
-ghost use Rattle.guest_pages.specs.Changes.{AllResident};
 ghost use Rattle.region_map.specs.Ranges.{is_in, page_end};
 ghost use Rattle.region_map.specs.Changes.{AreChanged};
 ghost use Rattle.region_map.specs.Calls.{is_mapped};
@@ -20,7 +19,6 @@ fn change_page(pages: &mut Pages, page: u64, change: Change)
     requires can { CanChange change pages.old page }
     ensures changed { AreChanged change (λ other. other == page) pages.old pages.new }
     ensures tallied { AreTallied pages.old → AreTallied pages.new }
-    ensures resident { pages.old.frames ≡ length pages.old.slots → AllResident pages.old → AllResident pages.new }
 {
     let addr = page * PAGE_SIZE;
     match change {
@@ -40,7 +38,6 @@ fn change_pages(pages: &mut Pages, from: u64, to: u64, change: Change)
     requires can { CanChangeAll change pages.old from to }
     ensures changed { AreChanged change (is_in from to) pages.old pages.new }
     ensures tallied { AreTallied pages.old → AreTallied pages.new }
-    ensures resident { pages.old.frames ≡ length pages.old.slots → AllResident pages.old → AllResident pages.new }
 {
     for page in from..to {
         change_page(pages, page, change);
@@ -54,7 +51,6 @@ fn change_mapped(pages: &mut Pages, regions: &[Region], from: u64, to: u64, chan
     requires mapped { (page : ℕ) → is_mapped regions.now page ≡ true → IsSome (table_of pages.old page) }
     ensures changed { AreChanged change (λ page. is_in from to page && is_mapped regions.now page) pages.old pages.new }
     ensures tallied { AreTallied pages.old → AreTallied pages.new }
-    ensures resident { pages.old.frames ≡ length pages.old.slots → AllResident pages.old → AllResident pages.new }
 {
     for region in regions {
         match part(*region, from, to) {
@@ -78,7 +74,6 @@ pub(crate) fn change_range(
     requires fit { FitRegions (perms_in (table_of pages.old)) regions.now }
     ensures changed { AreChanged change (is_in from to) pages.old pages.new }
     ensures tallied { AreTallied pages.old → AreTallied pages.new }
-    ensures resident { pages.old.frames ≡ length pages.old.slots → AllResident pages.old → AllResident pages.new }
 {
     match change {
         Change::Map(_, _) => change_pages(pages, from, to, change),

@@ -62,7 +62,7 @@ impl Regions {
     ghost use Rattle.machine_state.specs.Memory.{page_size};
     ghost use Rattle.machine_state.specs.Regions.{nature_at, most_regions};
     ghost use Rattle.guest_pages.specs.Pages.{PagesValue};
-    ghost use Rattle.guest_pages.specs.Changes.{AllResident, IsBlank};
+    ghost use Rattle.guest_pages.specs.Changes.{IsBlank};
     ghost use Rattle.region_map.specs.Ranges.{changed_regions, IsAfter};
     ghost use Rattle.region_map.specs.Calls.{FitPages, AreKept, PassLimits, HeapPasses, IsChange, IsResized, IsProtectFault, IsBreakFault, IsFreeBelow, IsHighest, NoneIn, is_taken, lowest_page, highest_end};
     ghost use Rattle.region_map.specs.Lists.{MayChange};
@@ -141,7 +141,6 @@ impl Regions {
         ensures err { OnErr result ((self.new ≡ self.old) × (pages.new ≡ pages.old)) }
         ensures heap { (self.new.heap ≡ self.old.heap) × (self.new.at ≡ self.old.at) }
         ensures fit { FitPages pages.new self.new.regions }
-        ensures resident { pages.old.frames ≡ length pages.old.slots → AllResident pages.old → AllResident pages.new }
     {
         let list = self.list_after(pages, from, to, change)?;
         change_range(pages, &self.regions, from, to, change);
@@ -171,7 +170,6 @@ impl Regions {
         ensures err { OnErr result ((self.new ≡ self.old) × (pages.new ≡ pages.old)) }
         ensures heap { (self.new.heap ≡ self.old.heap) × (self.new.at ≡ self.old.at) }
         ensures fit { FitPages pages.new self.new.regions }
-        ensures resident { pages.old.frames ≡ length pages.old.slots → AllResident pages.old → AllResident pages.new }
     {
         let from = start / PAGE_SIZE;
         self.change(pages, from, from + count, Change::Map(perms, file))
@@ -190,7 +188,6 @@ impl Regions {
         ensures err { OnErr result ((self.new ≡ self.old) × (pages.new ≡ pages.old)) }
         ensures heap { (self.new.heap ≡ self.old.heap) × (self.new.at ≡ self.old.at) }
         ensures fit { FitPages pages.new self.new.regions }
-        ensures resident { pages.old.frames ≡ length pages.old.slots → AllResident pages.old → AllResident pages.new }
     {
         let from = start / PAGE_SIZE;
         self.change(pages, from, from + count, Change::Unmap)
@@ -217,7 +214,6 @@ impl Regions {
         ensures err { OnErr result ((self.new ≡ self.old) × (pages.new ≡ pages.old)) }
         ensures heap { (self.new.heap ≡ self.old.heap) × (self.new.at ≡ self.old.at) }
         ensures fit { FitPages pages.new self.new.regions }
-        ensures resident { pages.old.frames ≡ length pages.old.slots → AllResident pages.old → AllResident pages.new }
     {
         let from = start / PAGE_SIZE;
         let to = from + count;
@@ -239,7 +235,6 @@ impl Regions {
         ensures err { OnErr result ((self.new ≡ self.old) × (pages.new ≡ pages.old)) }
         ensures heap { (self.new.heap ≡ self.old.heap) × (self.new.at ≡ self.old.at) }
         ensures fit { FitPages pages.new self.new.regions }
-        ensures resident { pages.old.frames ≡ length pages.old.slots → AllResident pages.old → AllResident pages.new }
     {
         if old < new {
             self.change(pages, old, new, Change::Map(HEAP_PERMS, false))
@@ -277,7 +272,6 @@ impl Regions {
         ensures err { OnErr result ((self.new ≡ self.old) × (pages.new ≡ pages.old)) }
         ensures heap { self.new.heap ≡ self.old.heap }
         ensures fit { FitPages pages.new self.new.regions }
-        ensures resident { pages.old.frames ≡ length pages.old.slots → AllResident pages.old → AllResident pages.new }
     {
         self.check_break(to)?;
         let at = self.at;

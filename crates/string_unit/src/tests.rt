@@ -5,6 +5,7 @@ mod rows;
 use crate::*;
 use gpr_flags::{Flags, Gprs};
 use guest_pages::{Full, Perms};
+use page_fixture::map_in_frame;
 use row_table::{Op, StringOp};
 use rows::*;
 use std::process::Abort;
@@ -51,10 +52,10 @@ fn window(row: &Row, pages: &Pages) -> [Result<u64, Miss>; 2] {
 
 /// Maps the pages of the rows.
 fn map_rows(pages: &mut Pages) -> Result<(), Full> {
-    pages.map_page(0x10_0000, BOTH)?;
-    pages.map_page(0x10_1000, BOTH)?;
-    pages.map_page(0xFFFF_F000, BOTH)?;
-    pages.map_page(0x1_0000_0000, BOTH)
+    map_in_frame(pages, 0x10_0000, BOTH)?;
+    map_in_frame(pages, 0x10_1000, BOTH)?;
+    map_in_frame(pages, 0xFFFF_F000, BOTH)?;
+    map_in_frame(pages, 0x1_0000_0000, BOTH)
 }
 
 /// The first row that `iterate` doesn't give.
@@ -113,8 +114,8 @@ fn expect_miss(
 #[test]
 fn first_access_that_is_not_allowed_stops_all(rt: HostRuntime) -> Result<(), Fail> {
     let mut pages = Pages::new(rt.alloc(), 8, 8)?;
-    pages.map_page(0x1000, BOTH)?;
-    pages.map_page(0x2000, Perms::READ)?;
+    map_in_frame(&mut pages, 0x1000, BOTH)?;
+    map_in_frame(&mut pages, 0x2000, Perms::READ)?;
     assert_eq!(rt; pages.write(0x1FF8, &[0x55; 8]), Ok(()));
     let high = 0x8000_0000_0000;
     for (op, places, want) in [
@@ -140,11 +141,9 @@ fn first_access_that_is_not_allowed_stops_all(rt: HostRuntime) -> Result<(), Fai
 #[test]
 fn page_that_is_away_is_brought_first(rt: HostRuntime) -> Result<(), Fail> {
     let mut pages = Pages::new(rt.alloc(), 8, 9)?;
-    for i in 1..=9u64 {
-        if i < 16 {
-            pages.map_page(i * 0x1000, BOTH)?;
-        }
-    }
+    map_in_frame(&mut pages, 0x1000, BOTH)?;
+    map_in_frame(&mut pages, 0x8000, BOTH)?;
+    pages.map_page(0x9000, BOTH)?;
     let mut g = gprs_of(&[0, 0x1000, 0x8FFF, 0x202]);
     let mut f = Flags::none();
     for (op, size) in [

@@ -1,5 +1,5 @@
 -- Lemmas for the tests.
-use Rattle.std.proofs.Common.{◌≡◌, ℕ, ◌/◌, Bool, true, false, cond, Option, Some, None, Result, Ok, IsSome, length, refl, sym, ◌∙◌, suc}
+use Rattle.std.proofs.Common.{◌≡◌, ℕ, ◌/◌, Bool, true, false, cond, Option, Some, None, Result, Ok, IsSome, length, refl, sym, ◌∙◌}
 use Rattle.std.specs.Option.{option_map}
 use Rattle.machine_state.specs.declared.kinds.Kind.{Kind}
 use Rattle.machine_state.specs.declared.kinds.Miss.{Miss}

@@ -393,7 +393,7 @@ fn each_get_and_put_fails_in_turn(rt: HostRuntime) -> Result<(), Fail> {
         let call = write_and_read(&mut guest).err();
         assert_eq!(rt; call, expected_call(number), "call {number}");
         if call.is_none() {
-            assert_eq!(rt; guest.pager.loads(), 12);
+            assert_eq!(rt; guest.pager.loads(), 20);
         }
     }
     Ok(())

@@ -1,5 +1,9 @@
-mod Examples
+pub mod WorkLemmas
 pub mod LineLemmas
-pub mod TopLemmas
+pub mod PartLemmas
+pub mod StoreLemmas
 pub mod TrailLemmas
-pub mod CountLemmas
+pub mod RunLemmas
+pub mod StartLemmas
+pub mod FileLemmas
+pub mod TopLemmas

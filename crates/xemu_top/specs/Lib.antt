@@ -1,4 +1,5 @@
 pub mod Lines
+pub mod Files
 pub mod Command
 pub mod Loading
 pub mod Headline

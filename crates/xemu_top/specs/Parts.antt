@@ -1,89 +1,149 @@
--- What the parts of the command do: each by an outcome and a trail of its own.
-use Rattle.std.specs.Prelude.{◌≡◌, ℕ, Bool, true, false, List, Option, Some, None, Result, Ok, Err, OnOk, IfErr}
+-- What the parts of the command do: each by some work of its own.
+use Rattle.std.specs.Prelude.{◌≡◌, ◌⊎◌, ℕ, true, List, [], ◌∷◌, map, Option, Some, None, IsSome, IsTrue, Result, Ok, Err, OnOk, IfErr}
 use Rattle.host_edge.specs.declared.outside.HostCall.{HostCall}
-use Rattle.host_edge.specs.declared.outside.HostCall.TheVariants.{PutErr}
-use Rattle.host_edge.specs.Files.{Held}
+use Rattle.host_edge.specs.declared.outside.HostCall.TheVariants.{Store, PutErr}
+use Rattle.host_edge.specs.Causes.{Counts}
+use Rattle.host_edge.specs.Files.{Held, Becomes}
+use Rattle.machine_state.specs.Memory.{Swap}
+use Rattle.machine_state.specs.State.{State}
+use Rattle.machine_state.specs.World.{World, GuestFile}
 use Rattle.core_step.specs.declared.machine.Machine.{Machine}
-use Rattle.guest_run.specs.declared.ends.RunEnd.{RunEnd}
-use Rattle.guest_run.specs.Outside.{Outside, Leaves}
-use Rattle.guest_run.specs.Trail.{Piece, FailsIn}
-use Rattle.guest_run.specs.Following.{Beside, Course, SinkPair, guest_end}
+use Rattle.linux_calls.specs.Following.{StillTell}
+use Rattle.command_words.specs.declared.kinds.Command.{Command}
+use Rattle.command_words.specs.declared.kinds.WordFault.{WordFault}
+use Rattle.guest_run.specs.declared.guest.Guest.{Guest}
+use Rattle.guest_run.specs.Step.{Ran}
+use Rattle.guest_run.specs.Outside.{Outside, IsOutside, Leaves, outside}
+use Rattle.guest_run.specs.Trail.{FailsIn, FailsOn}
+use Rattle.guest_run.specs.Guests.{Around, StandsFor}
+use Rattle.guest_run.specs.Tally.{IsCounted}
 use Rattle.xemu_top.specs.declared.ends.End.{End}
-use Rattle.xemu_top.specs.declared.ends.End.TheVariants.{Exit, Killed, Budget, Host}
+use Rattle.xemu_top.specs.declared.ends.End.TheVariants.{Words, Host, Memory}
 use Rattle.xemu_top.specs.declared.ends.Ended.{Ended}
-use Rattle.xemu_top.specs.Lines.{report_line}
-use Rattle.xemu_top.specs.Command.{Outcome, said, line_piece, status_of}
-use Rattle.xemu_top.specs.Headline.{MeetsWork, IsAnswer, failed_call}
+use Rattle.xemu_top.specs.Files.{path_at}
+use Rattle.xemu_top.specs.Command.{Work, Stores, ended, said, line_piece, store_piece, with_store, stores, on_run, on_world, command_calls, status_of}
+use Rattle.xemu_top.specs.Headline.{MeetsWork, IsAnswer, IsLeft, HasState, RefusesAs, IsTooLong, KeepsOtherFiles, failed_call, is_own, refusal_in}
+
+-- ---- what stands around a part
+-- the same with another host, and with another error output
+abbrev pub with_host : Around → Option Held → (opened : ℕ) → Counts → Around
+with_host a held opened counts = record a { held = held; opened = opened; tally = record a.tally { host = counts } }
+
+abbrev pub with_err : Around → Option (List ℕ) → (faults : ℕ) → Around
+with_err a err faults = record a { streams = record a.streams { err = err }; tally = record a.tally { err = faults } }
+
+-- this stands on the outside, as far as it is told
+abbrev pub StandsAround : Around → Outside → Type 0
+StandsAround a = IsOutside a.held a.streams
 
 -- ---- lines
--- the call that failed in a put, if it did
-abbrev pub failed_put : Result (Unit {0}) HostCall → Option HostCall
-failed_put (Ok done) = None
-failed_put (Err call) = Some call
+-- the call that failed in a put or in stores, if one did
+abbrev pub failed_in : Result (Unit {0}) HostCall → Option HostCall
+failed_in (Ok done) = None
+failed_in (Err call) = Some call
 
--- a line is put on the error output, whatever a host and a source tell: it stands there, or the put failed, and a front of it does
-pub record Says (line : List ℕ) (before after : SinkPair) (result : Result (Unit {0}) HostCall) : Type 0 where
-  pub whole : OnOk result ((held : Option Held) (left : Option (List ℕ)) (on : Outside) → Beside held left before on
-      → Beside held left after (said line on))
-  pub front : IfErr result (λ call. (held : Option Held) (left : Option (List ℕ)) (on : Outside) → Beside held left before on
-      → Leaves (Beside held left after) (FailsIn (line_piece line on) call))
-  pub course : Course before after (failed_put result)
+-- the host is as it was, and the streams tell what they told
+pub record KeepsHost (before after : Around) : Type 0 where
+  pub held : after.held ≡ before.held
+  pub opened : after.opened ≡ before.opened
+  pub streams : StillTell before.streams after.streams
+
+-- a line is put on the error output: it stands there, or the put failed, and a front of it does
+pub record Says (line : List ℕ) (before after : Around) (result : Result (Unit {0}) HostCall) : Type 0 where
+  pub whole : OnOk result ((on : Outside) → StandsAround before on → StandsAround after (said line on))
+  pub front : IfErr result (λ call. (on : Outside) → StandsAround before on → Leaves (StandsAround after) (FailsIn (line_piece line on) call))
+  pub keeps : KeepsHost before after
+  pub cause : IsCounted (PutErr ∷ []) (failed_in result) before.tally after.tally
   pub call : IfErr result (λ call. call ≡ PutErr)
 
--- the line that reports a run, where that is wanted, unless a failed call stopped it
-abbrev pub report_of : Bool → RunEnd → (steps : ℕ) → Option (List ℕ)
-report_of false end steps = None
-report_of true (RunEnd.Host call) steps = None
-report_of true end steps = Some (report_line (guest_end end) steps)
+-- the answer with an end and a machine
+abbrev pub answer_of : End → Option Machine → Ended
+answer_of end machine = record { status = status_of end; end = end; machine = machine }
+
+-- a command ends so, behind a line that says it, where there is one, unless the put of that fails
+pub record Ends (line : Option (List ℕ)) (end : End) (machine : Option Machine) (before after : Around) (result : Ended) : Type 0 where
+  pub meets : IsTrue (is_own end) → (swap : Swap) (state : Option State) → IsLeft swap machine state → (on : Outside) → StandsAround before on
+      → MeetsWork (ended line end state on) on swap result (StandsAround after)
+  pub silent : line ≡ None → (result ≡ answer_of end machine) × (after ≡ before)
+  pub is : (result ≡ answer_of end machine) ⊎ (result ≡ answer_of (Host PutErr) None)
+  pub keeps : KeepsHost before after
+  pub cause : IsTrue (is_own end) → IsCounted (PutErr ∷ []) (failed_call result.end) before.tally after.tally
+
+-- ---- stores
+-- no file is another than it was but those at these paths, and no page of the swap
+pub record KeepsRest (paths : List (List ℕ)) (old new : Held) : Type 0 where
+  pub files : KeepsOtherFiles paths old new
+  pub pages : new.page ≡ old.page
+
+-- a file is stored under a path, which the word at a place names, if the file exists; or the store failed
+pub record StoresFile (place : ℕ) (path : List ℕ) (file : GuestFile) (before after : Around) (result : Result (Unit {0}) HostCall) : Type 0 where
+  pub whole : OnOk result ((done : Stores) → StandsAround before done.outside → StandsAround after (with_store place path file done).outside)
+  pub front : IfErr result (λ call. (file.exists ≡ true) × ((on : Outside) → StandsAround before on
+      → Leaves (StandsAround after) (FailsIn (store_piece place path file.content on) call)))
+  pub held : Becomes (KeepsRest (path ∷ [])) before.held after.held
+  pub opened : after.opened ≡ before.opened
+  pub streams : after.streams ≡ before.streams
+  pub cause : IsCounted (Store place ∷ []) (failed_in result) before.tally after.tally
+
+-- the files of the pairs of `--out` at some places are stored, or a store failed
+pub record StoresFiles (words : List (List ℕ)) (files : List GuestFile) (places : List ℕ) (before after : Around) (result : Result (Unit {0}) HostCall) : Type 0 where
+  pub whole : OnOk result ((on : Outside) → StandsAround before on → StandsAround after (stores words files places on).outside)
+  pub front : IfErr result (λ call. (on : Outside) → StandsAround before on
+      → Leaves (StandsAround after) (FailsOn (stores words files places on).pieces call))
+  pub held : Becomes (KeepsRest (map (path_at words) places)) before.held after.held
+  pub opened : after.opened ≡ before.opened
+  pub streams : after.streams ≡ before.streams
+  pub cause : IsCounted (map (λ place. Store place) places) (failed_in result) before.tally after.tally
 
 -- ---- parts
--- an answer is by this outcome and trail from whatever stands on the outside, whatever a host and a source tell
-abbrev pub MeetsBeside : (Outside → Outcome) → (Outside → List Piece) → SinkPair → SinkPair → Ended → Type 0
-MeetsBeside outcome pieces before after ended =
-    (held : Option Held) (left : Option (List ℕ)) (on : Outside) → Beside held left before on
-    → MeetsWork (outcome on) (pieces on) on ended (Beside held left after)
-
--- a part of the command does its work: its answer is by its outcome and trail, and by the put that failed in it, if one did
-pub record DoesWork (outcome : Outside → Outcome) (pieces : Outside → List Piece) (before after : SinkPair) (ended : Ended) : Type 0 where
-  pub meets : MeetsBeside outcome pieces before after ended
+-- what holds of a part whatever the outside tells: what is told still is, no file of another path than the command stores is changed, a
+-- swap is opened only where the command wants one, and no count rose but that of the call that failed, which is one of the command's
+pub record Passes (words : List (List ℕ)) (command : Command) (before after : Around) (ended : Ended) : Type 0 where
   pub answer : IsAnswer ended
-  pub course : Course before after (failed_call ended.end)
+  pub held : Becomes (KeepsOtherFiles (map (path_at words) command.outs.items)) before.held after.held
+  pub streams : StillTell before.streams after.streams
+  pub opened : command.swap ≡ None → after.opened ≡ before.opened
+  pub cause : IsCounted (command_calls command) (failed_call ended.end) before.tally after.tally
+  pub too_long : (fault : WordFault) → ended.end ≡ Words fault → IsTooLong (Ok command) fault
 
--- ---- the end of a run
--- the end of a command by that of its run
-abbrev pub end_from : RunEnd → End
-end_from (RunEnd.Exit code) = Exit code
-end_from (RunEnd.Killed signal) = Killed signal
-end_from RunEnd.Budget = Budget
-end_from (RunEnd.Host call) = Host call
+-- a part does its work from whatever stands on the outside, as far as a host and streams tell it
+abbrev pub MeetsAround : (Outside → Work) → Around → Around → Ended → Type 0
+MeetsAround work before after ended =
+    (held now : Held) → before.held ≡ Some held → after.held ≡ Some now → IsSome before.streams.left → (on : Outside) → StandsAround before on
+    → MeetsWork (work on) on now.page ended (StandsAround after)
 
--- a machine that a failed call stopped isn't answered
-abbrev pub machine_after : RunEnd → Machine → Option Machine
-machine_after (RunEnd.Host call) machine = None
-machine_after other machine = Some machine
+-- and refuses as that does, whatever the streams tell
+abbrev pub RefusesAround : (Outside → Work) → Around → Ended → Type 0
+RefusesAround work before ended =
+    (held : Held) → before.held ≡ Some held → (on : Outside) → on.files ≡ held.file → RefusesAs (work on) ended.end
 
--- the answer of a command by the end of its run
-abbrev pub finished : RunEnd → Machine → Ended
-finished end machine =
-    record { status = status_of (end_from end); end = end_from end; machine = machine_after end machine }
+-- a part of a command before the first step
+pub record DoesWork (words : List (List ℕ)) (command : Command) (work : Outside → Work) (before after : Around) (ended : Ended) : Type 0 where
+  pub meets : MeetsAround work before after ended
+  pub refuses : RefusesAround work before ended
+  pub passes : Passes words command before after ended
 
--- ---- the report of a run
--- an end by a failed call, without a machine
-abbrev pub stopped : HostCall → Ended
-stopped call = record { status = status_of (Host call); end = Host call; machine = None }
+-- ---- the run
+-- a guest has ended so, or hasn't, after some steps, with some files
+pub record HasRun (guest : Guest) (ran : Ran) : Type 0 where
+  pub end : guest.end ≡ ran.end
+  pub steps : guest.machine.steps ≡ ran.world.state.steps
+  pub files : guest.files.files ≡ ran.world.files
 
--- the answer of a command behind the put of its report
-abbrev pub finished_by : Result (Unit {0}) HostCall → RunEnd → Machine → Ended
-finished_by (Ok done) end machine = finished end machine
-finished_by (Err call) end machine = stopped call
+-- the last part: the stores and the report of a guest that has run
+pub record Finishes (words : List (List ℕ)) (command : Command) (guest : Guest) (before after : Around) (ended : Ended) : Type 0 where
+  pub meets : (ran : Ran) → HasRun guest ran → (held now : Held) → before.held ≡ Some held → after.held ≡ Some now
+      → HasState held.page guest.machine ran.world.state → (on : Outside) → StandsAround before on
+      → MeetsWork (on_run words command ran on) on now.page ended (StandsAround after)
+  pub passes : Passes words command before after ended
+  pub no_refusal : refusal_in ended.end ≡ None
+  pub memory : ended.end ≡ Memory → ⊥
 
--- a report was put, or its put failed, and the command ended by that
-pub record Reported (line : List ℕ) (end : RunEnd) (machine : Machine) (before after : SinkPair) (ended : Ended) : Type 0 where
-  pub put : Result (Unit {0}) HostCall
-  pub says : Says line before after put
-  pub ended_is : ended ≡ finished_by put end machine
-
--- the end of a run, with its report, where there is one
-abbrev pub ReportsRun : Option (List ℕ) → RunEnd → Machine → SinkPair → SinkPair → Ended → Type 0
-ReportsRun None end machine before after ended = (after ≡ before) × (ended ≡ finished end machine)
-ReportsRun (Some line) end machine before after ended = Reported line end machine before after ended
+-- the run of a guest with the last part
+pub record RunsGuest (words : List (List ℕ)) (command : Command) (guest : Guest) (before after : Around) (ended : Ended) : Type 0 where
+  pub meets : (first : World) → (held now : Held) → before.held ≡ Some held → after.held ≡ Some now → IsSome before.streams.left
+      → StandsFor held.page guest before.streams first
+      → MeetsWork (on_world words command held.file first) (outside held.file first) now.page ended (StandsAround after)
+  pub passes : Passes words command before after ended
+  pub no_refusal : refusal_in ended.end ≡ None
+  pub memory : ended.end ≡ Memory → ⊥

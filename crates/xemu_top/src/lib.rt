@@ -1,10 +1,14 @@
 //! The top call: a command from its words to its end.
 #![tactic(auto)]
 
+mod answers;
 mod ends;
+mod files;
 mod laws;
 mod lines;
 mod loading;
+mod running;
+mod storing;
 #[cfg(test)]
 mod tests;
 mod top;

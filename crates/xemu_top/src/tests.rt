@@ -8,6 +8,8 @@ use host_edge::{HostCall, MemHost, MemSink, MemSource};
 use std::alloc::{AllocError, Global};
 use std::test::Fail;
 
+mod files;
+
 /// A header, eight instructions from byte 120 on, and `hello` with a line feed.
 const HELLO: [u8; 159] = [
     0x7F, 0x45, 0x4C, 0x46, 2, 1, 1, 0, 0, 0, 0, 0, 0, 0, 0, 0, 2, 0, 62, 0, 1, 0, 0, 0, 120, 0,
@@ -47,12 +49,35 @@ const WIDE: Room<'static> = Room {
     fail: &[],
 };
 
-fn strings(alloc: Global, texts: &[&str]) -> Result<Vec<String>, AllocError> {
-    let mut strings = Vec::new(alloc);
+/// The words that say where pages lie: each in a frame of its own, and in eight frames and a swap.
+const FRAMES: [&[&str]; 2] = [
+    &["--pages", "512"],
+    &["--pages", "512", "--resident", "8", "--swap", "s"],
+];
+
+/// Some words and these texts behind them.
+fn with_texts(
+    alloc: Global,
+    words: Vec<String>,
+    texts: &[&str],
+) -> Result<Vec<String>, AllocError> {
+    let mut words = words;
     for text in texts {
-        strings.push(String::from_str(alloc, text)?)?;
+        words.push(String::from_str(alloc, text)?)?;
     }
-    Ok(strings)
+    Ok(words)
+}
+
+/// The words of three parts of a command line.
+fn line(
+    alloc: Global,
+    first: &[&str],
+    second: &[&str],
+    third: &[&str],
+) -> Result<Vec<String>, AllocError> {
+    let words = with_texts(alloc, Vec::new(alloc), first)?;
+    let words = with_texts(alloc, words, second)?;
+    with_texts(alloc, words, third)
 }
 
 /// A word of so many bytes.
@@ -65,6 +90,23 @@ fn long_word(alloc: Global, count: usize) -> Result<String, AllocError> {
 }
 
 /// Runs a command on a host with one file, `hello`, and sinks with these rooms.
+fn run_words(
+    alloc: Global,
+    words: &[String],
+    bytes: &[u8],
+    out: Room,
+    err: Room,
+) -> Result<Left, AllocError> {
+    let files = vec![in alloc; file(alloc, "hello", bytes)?]?;
+    let mut host = MemHost::new(alloc, files, bytes.len() + 5, 512, &[])?;
+    let mut input = MemSource::new(alloc, b"unread", 3, &[])?;
+    let mut out = MemSink::new(alloc, out.bytes, out.fail)?;
+    let mut err = MemSink::new(alloc, err.bytes, err.fail)?;
+    let ended = emulate(alloc, words, &mut host, &mut input, &mut out, &mut err);
+    Ok(Left { ended, out, err })
+}
+
+/// The same by the texts of its words.
 fn run_command(
     alloc: Global,
     words: &[&str],
@@ -72,14 +114,21 @@ fn run_command(
     out: Room,
     err: Room,
 ) -> Result<Left, AllocError> {
-    let files = vec![in alloc; file(alloc, "hello", bytes)?]?;
-    let mut host = MemHost::new(alloc, files, bytes.len() + 5, 1, &[])?;
-    let mut input = MemSource::new(alloc, b"unread", 3, &[])?;
-    let mut out = MemSink::new(alloc, out.bytes, out.fail)?;
-    let mut err = MemSink::new(alloc, err.bytes, err.fail)?;
-    let words = strings(alloc, words)?;
-    let ended = emulate(alloc, &words, &mut host, &mut input, &mut out, &mut err);
-    Ok(Left { ended, out, err })
+    let words = line(alloc, words, &[], &[])?;
+    run_words(alloc, &words, bytes, out, err)
+}
+
+/// Runs a program whose pages lie so, by the words that follow.
+fn run_program(
+    alloc: Global,
+    frames: &[&str],
+    rest: &[&str],
+    bytes: &[u8],
+    out: Room,
+    err: Room,
+) -> Result<Left, AllocError> {
+    let words = line(alloc, &["run"], frames, rest)?;
+    run_words(alloc, &words, bytes, out, err)
 }
 
 /// The sample program with other bytes at some places.
@@ -171,12 +220,15 @@ fn hello_prints_and_exits_and_its_variants_end_as_they_should(rt: HostRuntime) -
         (unsupported, End::Killed(4), 132, "", Some(1)),
         (other_call, End::Exit(0), 0, "", Some(8)),
     ] {
-        let left = run_command(alloc, &["run", "hello"], &hello_with(changes), WIDE, WIDE)?;
-        assert_eq!(rt; left.ended.end, end);
-        assert_eq!(rt; left.ended.status, status);
-        assert_eq!(rt; left.out.bytes(), text.as_bytes());
-        assert_eq!(rt; left.err.bytes().len(), 0);
-        assert_eq!(rt; steps_of(&left.ended), steps);
+        for frames in FRAMES {
+            let image = hello_with(changes);
+            let left = run_program(alloc, frames, &["hello"], &image, WIDE, WIDE)?;
+            assert_eq!(rt; left.ended.end, end);
+            assert_eq!(rt; left.ended.status, status);
+            assert_eq!(rt; left.out.bytes(), text.as_bytes());
+            assert_eq!(rt; left.err.bytes().len(), 0);
+            assert_eq!(rt; steps_of(&left.ended), steps);
+        }
     }
     Ok(())
 }
@@ -185,16 +237,13 @@ fn hello_prints_and_exits_and_its_variants_end_as_they_should(rt: HostRuntime) -
 #[test]
 fn a_program_that_may_stand_anywhere_is_moved_up(rt: HostRuntime) -> Result<(), Fail> {
     let movable: &[(usize, u8)] = &[(16, 3), (26, 0), (82, 0), (90, 0)];
-    let left = run_command(
-        rt.alloc(),
-        &["run", "hello"],
-        &hello_with(movable),
-        WIDE,
-        WIDE,
-    )?;
-    assert_eq!(rt; left.ended.end, End::Exit(0));
-    assert_eq!(rt; left.out.bytes(), "hello\n".as_bytes());
-    assert_eq!(rt; rip_of(&left.ended), Some(0x5555_5555_4099));
+    for frames in FRAMES {
+        let image = hello_with(movable);
+        let left = run_program(rt.alloc(), frames, &["hello"], &image, WIDE, WIDE)?;
+        assert_eq!(rt; left.ended.end, End::Exit(0));
+        assert_eq!(rt; left.out.bytes(), "hello\n".as_bytes());
+        assert_eq!(rt; rip_of(&left.ended), Some(0x5555_5555_4099));
+    }
     Ok(())
 }
 
@@ -256,11 +305,13 @@ fn code_ends_as_it_should(rt: HostRuntime) -> Result<(), Fail> {
         (&write_code(1, 0), End::Exit(0), 0, 9),
     ];
     for (code, end, status, steps) in rows {
-        let left = run_command(alloc, &["run", "hello"], &with_code(code), WIDE, WIDE)?;
-        assert_eq!(rt; left.ended.end, end);
-        assert_eq!(rt; left.ended.status, status);
-        assert_eq!(rt; left.out.bytes().len(), 0);
-        assert_eq!(rt; steps_of(&left.ended), Some(steps));
+        for frames in FRAMES {
+            let left = run_program(alloc, frames, &["hello"], &with_code(code), WIDE, WIDE)?;
+            assert_eq!(rt; left.ended.end, end);
+            assert_eq!(rt; left.ended.status, status);
+            assert_eq!(rt; left.out.bytes().len(), 0);
+            assert_eq!(rt; steps_of(&left.ended), Some(steps));
+        }
     }
     Ok(())
 }
@@ -282,8 +333,10 @@ fn a_fault_leaves_the_registers(rt: HostRuntime) -> Result<(), Fail> {
         (&[0x31, 0xC9, 0xF7, 0xF1], [0x40_007A, 0, 0, 0x246]),
     ];
     for (code, registers) in rows {
-        let left = run_command(rt.alloc(), &["run", "hello"], &with_code(code), WIDE, WIDE)?;
-        assert_eq!(rt; registers_of(&left.ended), Some(registers));
+        for frames in FRAMES {
+            let left = run_program(rt.alloc(), frames, &["hello"], &with_code(code), WIDE, WIDE)?;
+            assert_eq!(rt; registers_of(&left.ended), Some(registers));
+        }
     }
     Ok(())
 }
@@ -367,6 +420,12 @@ fn commands_end_and_say_what_they_should(rt: HostRuntime) -> Result<(), Fail> {
         ),
         words_row(&["run", ""], 1, 6, "xemu: words 1 6\n"),
         words_row(&["run", "--report"], 2, 7, "xemu: words 2 7\n"),
+        words_row(
+            &["run", "--resident", "8", "hello"],
+            0,
+            9,
+            "xemu: words 0 9\n",
+        ),
         words_row(&["run", "hello", "\0"], 2, 12, "xemu: words 2 12\n"),
         image_row(0, 1, 0, "xemu: image 1 at 0\n"),
         image_row(63, 1, 63, "xemu: image 1 at 63\n"),
@@ -437,14 +496,16 @@ fn a_program_sees_its_start_stack(rt: HostRuntime) -> Result<(), Fail> {
     // mov edi, esp; mov eax, 60; syscall
     let pointer: &[u8] = &[0x89, 0xE7, 0xB8, 60, 0, 0, 0, 0x0F, 5];
     let rows: [(&[u8], &[&str], u8); 4] = [
-        (count, &["run", "hello", "a", "bc"], 3),
-        (env, &["run", "--env", "Ab=c", "--env", "D", "hello"], 65),
-        (pointer, &["run", "hello"], 0x70),
-        (pointer, &["run", "hello", "0123456"], 0x60),
+        (count, &["hello", "a", "bc"], 3),
+        (env, &["--env", "Ab=c", "--env", "D", "hello"], 65),
+        (pointer, &["hello"], 0x70),
+        (pointer, &["hello", "0123456"], 0x60),
     ];
     for (code, words, status) in rows {
-        let left = run_command(rt.alloc(), words, &with_code(code), WIDE, WIDE)?;
-        assert_eq!(rt; left.ended.end, End::Exit(status));
+        for frames in FRAMES {
+            let left = run_program(rt.alloc(), frames, words, &with_code(code), WIDE, WIDE)?;
+            assert_eq!(rt; left.ended.end, End::Exit(status));
+        }
     }
     Ok(())
 }
@@ -480,12 +541,14 @@ fn a_failing_sink_ends_the_run_with_what_it_took(rt: HostRuntime) -> Result<(), 
             bytes: room,
             fail: &[(1, taken)],
         };
-        let left = run_command(alloc, &["run", "hello"], &HELLO, out, WIDE)?;
-        assert_eq!(rt; left.ended.end, End::Host(HostCall::PutOut));
-        assert_eq!(rt; left.ended.status, 74);
-        assert_eq!(rt; left.out.bytes(), text.as_bytes());
-        assert_eq!(rt; left.err.bytes().len(), 0);
-        assert_eq!(rt; steps_of(&left.ended), None);
+        for frames in FRAMES {
+            let left = run_program(alloc, frames, &["hello"], &HELLO, out, WIDE)?;
+            assert_eq!(rt; left.ended.end, End::Host(HostCall::PutOut));
+            assert_eq!(rt; left.ended.status, 74);
+            assert_eq!(rt; left.out.bytes(), text.as_bytes());
+            assert_eq!(rt; left.err.bytes().len(), 0);
+            assert_eq!(rt; steps_of(&left.ended), None);
+        }
     }
     Ok(())
 }
@@ -497,26 +560,31 @@ fn a_write_of_no_bytes_calls_no_sink(rt: HostRuntime) -> Result<(), Fail> {
         bytes: 100,
         fail: &[(1, 0)],
     };
-    let left = run_command(rt.alloc(), &["run", "hello"], &image, failing, WIDE)?;
-    assert_eq!(rt; left.ended.end, End::Exit(0));
-    assert_eq!(rt; steps_of(&left.ended), Some(9));
+    for frames in FRAMES {
+        let left = run_program(rt.alloc(), frames, &["hello"], &image, failing, WIDE)?;
+        assert_eq!(rt; left.ended.end, End::Exit(0));
+        assert_eq!(rt; steps_of(&left.ended), Some(9));
+    }
     Ok(())
 }
 
 #[test]
 fn a_write_goes_over_the_end_of_a_page(rt: HostRuntime) -> Result<(), Fail> {
     let image = two_pages(rt.alloc())?;
-    let left = run_command(rt.alloc(), &["run", "hello"], &image, WIDE, WIDE)?;
-    assert_eq!(rt; left.ended.end, End::Exit(0));
-    assert_eq!(rt; left.out.bytes(), "page to page".as_bytes());
-    assert_eq!(rt; steps_of(&left.ended), Some(8));
-    let narrow = Room {
-        bytes: 100,
-        fail: &[(2, 3)],
-    };
-    let left = run_command(rt.alloc(), &["run", "hello"], &image, narrow, WIDE)?;
-    assert_eq!(rt; left.ended.end, End::Host(HostCall::PutOut));
-    assert_eq!(rt; left.out.bytes(), "page to p".as_bytes());
+    let none: &[(u64, usize)] = &[];
+    let second: &[(u64, usize)] = &[(2, 3)];
+    for (fail, end, text, steps) in [
+        (none, End::Exit(0), "page to page", Some(8)),
+        (second, End::Host(HostCall::PutOut), "page to p", None),
+    ] {
+        for frames in FRAMES {
+            let out = Room { bytes: 100, fail };
+            let left = run_program(rt.alloc(), frames, &["hello"], &image, out, WIDE)?;
+            assert_eq!(rt; left.ended.end, end);
+            assert_eq!(rt; left.out.bytes(), text.as_bytes());
+            assert_eq!(rt; steps_of(&left.ended), steps);
+        }
+    }
     Ok(())
 }
 
@@ -529,12 +597,14 @@ fn descriptor_two_is_the_error_output(rt: HostRuntime) -> Result<(), Fail> {
         (none, End::Exit(0), 0, "hello\n"),
         (first, End::Host(HostCall::PutErr), 74, "he"),
     ] {
-        let err = Room { bytes: 100, fail };
-        let left = run_command(rt.alloc(), &["run", "hello"], &image, WIDE, err)?;
-        assert_eq!(rt; left.ended.end, end);
-        assert_eq!(rt; left.ended.status, status);
-        assert_eq!(rt; left.err.bytes(), text.as_bytes());
-        assert_eq!(rt; left.out.bytes().len(), 0);
+        for frames in FRAMES {
+            let err = Room { bytes: 100, fail };
+            let left = run_program(rt.alloc(), frames, &["hello"], &image, WIDE, err)?;
+            assert_eq!(rt; left.ended.end, end);
+            assert_eq!(rt; left.ended.status, status);
+            assert_eq!(rt; left.err.bytes(), text.as_bytes());
+            assert_eq!(rt; left.out.bytes().len(), 0);
+        }
     }
     Ok(())
 }

@@ -1,17 +1,17 @@
 //! What the words say of the program.
-ghost use Rattle.std.specs.Prelude.{◌≡◌, ◌<◌, IfOk, length, map, string_bytes};
+ghost use Rattle.std.specs.Prelude.{◌≡◌, ◌<◌, IfOk, is_some, length, map, string_bytes};
 ghost use Rattle.command_words.specs.Texts.{word_at};
 ghost use Rattle.command_words.specs.Command.{IsCommand, arguments as arguments_of, environment as environment_of};
 
 use command_words::Command;
 use std::alloc::{AllocError, Global};
 
-/// The program's path.
-pub(crate) fn path<'a>(words: &'a [String], command: &Command) -> &'a str
-    requires { IsCommand (map string_bytes words.now) command.now }
-    ensures { result.now ≡ word_at (map string_bytes words.now) command.now.program }
+/// The word at a place.
+pub(crate) fn text_at(words: &[String], place: u32) -> &str
+    requires { place < length words.now }
+    ensures { result.now ≡ word_at (map string_bytes words.now) place }
 {
-    words[command.program as usize].as_str()
+    words[place as usize].as_str()
 }
 
 /// The guest's arguments, of which the first is the program's path.
@@ -37,4 +37,15 @@ pub(crate) fn environment(
         texts.push(words[*place as usize].clone()?)?;
     }
     Ok(texts)
+}
+
+/// The path of the swap, where one is given.
+pub(crate) fn swap_path<'a>(words: &'a [String], command: &Command) -> Option<&'a str>
+    requires { IsCommand (map string_bytes words.now) command.now }
+    ensures { is_some result ≡ is_some command.now.swap }
+{
+    match command.swap {
+        Some(place) => Some(text_at(words, place)),
+        None => None,
+    }
 }

@@ -1,4 +1,7 @@
 //! Pages at work: what each call lets be done with them afterwards.
+ghost use Rattle.std.specs.Prelude.{◌≡◌, ◌<◌, ◌%◌};
+ghost use Rattle.machine_state.specs.Memory.{page_size};
+
 use super::*;
 use crate::entry::{Mark, Place};
 use std::process::Abort;
@@ -12,11 +15,42 @@ const EXECUTE: Kind = Kind::Execute;
 
 const BOTH: Perms = Perms(3);
 
-// Maps so many pages from 0x1000 on.
+// Gives the page at an address, where that access to it waits, a free frame whose bytes are all this one, and answers whether
+// the page was on the swap.
+fn enter_for(pages: &mut Pages, addr: u64, kind: Kind, byte: u8) -> Option<bool> {
+    if !pages.has_free() {
+        return None;
+    }
+    match pages.ready(addr, 1, kind) {
+        Err(Miss::Away(slot)) => {
+            let on_swap = pages.on_swap(slot);
+            pages.enter(slot, &[byte; 4096]);
+            Some(on_swap)
+        }
+        Ok(()) | Err(Miss::Unmapped(_)) | Err(Miss::Denied(_)) | Err(Miss::NonCanonical(_)) => None,
+    }
+}
+
+fn enter_at(pages: &mut Pages, addr: u64, byte: u8) -> Option<bool> {
+    enter_for(pages, addr, READ, byte)
+}
+
+// Maps a page that can be read or executed, in a frame where one is free.
+fn map_in_frame(pages: &mut Pages, addr: u64, perms: Perms) -> Result<(), Full>
+    requires page { addr % page_size ≡ 0 }
+    requires low { addr < 0x800000000000 }
+{
+    pages.map_page(addr, perms)?;
+    let kind = if perms.permits(READ) { READ } else { EXECUTE };
+    enter_for(pages, addr, kind, 0);
+    Ok(())
+}
+
+// Maps so many pages from 0x1000 on, in frames as far as there are.
 fn map_pages(pages: &mut Pages, count: u64) -> Result<(), Full> {
     for i in 1..=count {
         if i < 16 {
-            pages.map_page(i * 0x1000, BOTH)?;
+            map_in_frame(pages, i * 0x1000, BOTH)?;
         }
     }
     Ok(())
@@ -53,10 +87,10 @@ fn expect_answers(rt: &impl Abort, pages: &Pages, cases: &[(u64, u64, Kind, Resu
 #[test]
 fn accesses_stop_at_the_first_byte_that_is_not_allowed(rt: HostRuntime) -> Result<(), Fail> {
     let mut pages = Pages::new(rt.alloc(), 8, 8)?;
-    pages.map_page(0x1000, BOTH)?;
-    pages.map_page(0x2000, Perms::READ)?;
-    pages.map_page(0x3000, Perms::EXECUTE)?;
-    pages.map_page(0x7FFF_FFFF_F000, BOTH)?;
+    map_in_frame(&mut pages, 0x1000, BOTH)?;
+    map_in_frame(&mut pages, 0x2000, Perms::READ)?;
+    map_in_frame(&mut pages, 0x3000, Perms::EXECUTE)?;
+    map_in_frame(&mut pages, 0x7FFF_FFFF_F000, BOTH)?;
     expect_answers(
         &rt,
         &pages,
@@ -112,7 +146,7 @@ fn pages_begin_as_zeros_and_change_alone(rt: HostRuntime) -> Result<(), Fail> {
     );
 
     // A page that is mapped again is zeros; one that is unmapped is gone, and its slot takes another.
-    pages.map_page(0x1000, Perms::READ)?;
+    map_in_frame(&mut pages, 0x1000, Perms::READ)?;
     pages.unmap_page(0x3000);
     expect_bytes(
         &rt,
@@ -167,13 +201,12 @@ fn a_write_across_pages_marks_both(rt: HostRuntime) -> Result<(), Fail> {
 }
 
 #[test]
-#[tactic(auto, using(crate::proofs::Togethers::zeroed_stays))]
-fn lent_bytes_are_written_and_zeroed(rt: HostRuntime) -> Result<(), Fail> {
+fn lent_bytes_are_written(rt: HostRuntime) -> Result<(), Fail> {
     let mut pages = Pages::new(rt.alloc(), 8, 8)?;
     if let Ok(part) = pages.lend(0x1010, 3) {
         part.copy_from_slice(&[7, 8, 9]);
     }
-    pages.map_page(0x1000, BOTH)?;
+    map_in_frame(&mut pages, 0x1000, BOTH)?;
     assert_eq!(rt; byte_at(&pages, 0x1010), Ok(0));
     if let Ok(part) = pages.lend(0x1010, 3) {
         part.copy_from_slice(&[7, 8, 9]);
@@ -182,31 +215,48 @@ fn lent_bytes_are_written_and_zeroed(rt: HostRuntime) -> Result<(), Fail> {
         Ok(shown) => assert_eq!(rt; shown, [0, 7, 8, 9, 0].as_slice()),
         Err(miss) => panic!(rt; "{miss:?}"),
     }
-    pages.map_page(0x2000, BOTH)?;
-    pages.zero_page(0x2000);
-    pages.set_perms(0x2000, Perms::READ);
-    expect_bytes(&rt, &pages, &[(0x1011, Ok(8)), (0x2000, Ok(0))]);
-    assert_eq!(rt; pages.write(0x1FFF, &[1, 2]), Err(Miss::Denied(0x2000)));
     Ok(())
 }
 
 #[test]
-fn a_page_beyond_the_frames_is_away(rt: HostRuntime) -> Result<(), Fail> {
+fn a_zeroed_page_can_get_other_permissions(rt: HostRuntime) -> Result<(), Fail> {
+    let mut pages = Pages::new(rt.alloc(), 8, 8)?;
+    pages.map_page(0x2000, BOTH)?;
+    pages.zero_page(0x2000);
+    pages.set_perms(0x2000, Perms::READ);
+    map_in_frame(&mut pages, 0x1000, BOTH)?;
+    assert_eq!(rt; enter_at(&mut pages, 0x2000, 0), Some(false));
+    assert_eq!(rt; pages.write(0x1FFE, &[1, 2]), Ok(()));
+    assert_eq!(rt; pages.write(0x1FFF, &[3, 4]), Err(Miss::Denied(0x2000)));
+    expect_bytes(&rt, &pages, &[(0x1FFF, Ok(2)), (0x2000, Ok(0))]);
+    Ok(())
+}
+
+#[test]
+fn a_page_takes_no_frame_until_it_is_entered(rt: HostRuntime) -> Result<(), Fail> {
     let mut pages = Pages::new(rt.alloc(), 8, 9)?;
-    map_pages(&mut pages, 9)?;
+    map_pages(&mut pages, 7)?;
+    pages.map_page(0x8000, BOTH)?;
+    pages.map_page(0x9000, BOTH)?;
+    assert!(rt; pages.has_free());
     assert_eq!(rt; pages.allowed(0x8FFF, 2, WRITE), Ok(()));
     assert!(rt; matches!(pages.ready(0x8FFF, 2, WRITE), Err(Miss::Away(_))));
+
+    // A write that waits for its second page writes nothing on the first.
+    assert_eq!(rt; enter_at(&mut pages, 0x8000, 0), Some(false));
     assert!(rt; matches!(pages.write(0x8FFF, &[1, 2]), Err(Miss::Away(_))));
     assert_eq!(rt; byte_at(&pages, 0x8FFF), Ok(0));
 
-    // A frame that becomes free serves the next new page that is mapped, and no page that is mapped anew.
+    // A frame that becomes free serves no page that is mapped, and a page that is mapped anew gives its own up.
     pages.unmap_page(0x1000);
     pages.map_page(0x9000, BOTH)?;
-    assert!(rt; matches!(pages.write(0x8FFF, &[1, 2]), Err(Miss::Away(_))));
-    pages.unmap_page(0x9000);
-    pages.map_page(0x9000, BOTH)?;
+    assert_eq!(rt; mark_of(&pages, 9), None);
+    pages.map_page(0x2000, BOTH)?;
+    assert_eq!(rt; mark_of(&pages, 2), None);
+    assert_eq!(rt; enter_at(&mut pages, 0x9000, 0), Some(false));
     assert_eq!(rt; pages.write(0x8FFF, &[1, 2]), Ok(()));
     assert_eq!(rt; byte_at(&pages, 0x9000), Ok(2));
+    assert!(rt; pages.has_free());
     Ok(())
 }
 
@@ -234,22 +284,6 @@ fn leave_first(pages: &mut Pages) -> Option<u8> {
     };
     pages.leave(slot);
     byte
-}
-
-// Gives the page at an address, where it is away, a free frame whose bytes are all this one, and answers whether the page was
-// on the swap.
-fn enter_at(pages: &mut Pages, addr: u64, byte: u8) -> Option<bool> {
-    if !pages.has_free() {
-        return None;
-    }
-    match pages.ready(addr, 1, READ) {
-        Err(Miss::Away(slot)) => {
-            let on_swap = pages.on_swap(slot);
-            pages.enter(slot, &[byte; 4096]);
-            Some(on_swap)
-        }
-        Ok(()) | Err(Miss::Unmapped(_)) | Err(Miss::Denied(_)) | Err(Miss::NonCanonical(_)) => None,
-    }
 }
 
 // Lets the pages that were brought first leave and come again, which weren't written.
@@ -297,7 +331,7 @@ fn a_page_mapped_anew_gives_its_frame_and_its_copy_up(rt: HostRuntime) -> Result
     assert_eq!(rt; pages.write(0x1000, &[1]), Ok(()));
     assert_eq!(rt; leave_first(&mut pages), Some(1));
 
-    // On the swap or in a frame, the page is zeros then, and away where there are more pages than frames.
+    // On the swap or in a frame, the page is zeros then, and away.
     pages.map_page(0x1000, BOTH)?;
     assert_eq!(rt; enter_at(&mut pages, 0x1000, 0), Some(false));
     assert_eq!(rt; pages.write(0x3000, &[3]), Ok(()));
@@ -305,7 +339,7 @@ fn a_page_mapped_anew_gives_its_frame_and_its_copy_up(rt: HostRuntime) -> Result
     assert_eq!(rt; enter_at(&mut pages, 0x3000, 0), Some(false));
     assert_eq!(rt; mark_of(&pages, 3), Some(Mark::Fresh));
     pages.unmap_page(0x2000);
-    pages.map_page(0x9000, BOTH)?;
+    map_in_frame(&mut pages, 0x9000, BOTH)?;
     assert_eq!(rt; mark_of(&pages, 9), Some(Mark::Fresh));
     pages.map_page(0x9000, BOTH)?;
     pages.zero_page(0x9000);

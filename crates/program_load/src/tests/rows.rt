@@ -25,7 +25,7 @@ pub(super) struct Row {
     pub(super) unmapped: &'static [u64],
 }
 
-pub(super) static ROWS: [Row; 5] = [
+pub(super) static ROWS: [Row; 6] = [
     // Code, and behind a page of its own data whose zeros go on over two pages.
     Row {
         kind: 2,
@@ -147,6 +147,20 @@ pub(super) static ROWS: [Row; 5] = [
             0x5555_5567_A000,
             0x7FFF_0000_0000,
         ],
+    },
+    // More pages than there may be frames, each with bytes from the file.
+    Row {
+        kind: 2,
+        len: 0xA800,
+        segments: &[(6, 0, 0x40_0000, 0xA800, 0xA800)],
+        bytes: &[
+            (0x40_0000, &[127, 69, 76, 70, 2, 1, 1, 0]),
+            (0x40_0FFE, &[79, 80, 81, 82]),
+            (0x40_7FFE, &[137, 138, 139, 140]),
+            (0x40_A7FE, &[86, 87, 0, 0]),
+        ],
+        perms: &[(0x40_0000, 3), (0x40_8000, 3), (0x40_A000, 3)],
+        unmapped: &[0x3F_FFFF, 0x40_B000],
     },
 ];
 

@@ -4,6 +4,7 @@ ghost use Rattle.region_map.specs.Calls.{FitPages, highest_end};
 
 use super::*;
 use machine_state::{Kind, Miss, Region, next_random};
+use page_fixture::enter_at;
 use std::alloc::{AllocError, Global};
 use std::process::Abort;
 use std::test::Fail;
@@ -368,6 +369,16 @@ fn expect_bytes(rt: &impl Abort, pages: &Pages, cases: &[(u64, Result<u8, Miss>)
     }
 }
 
+// Enters the three pages from 0x10000 on.
+fn enter_pages(regions: &Regions, pages: &mut Pages)
+    requires { FitPages pages.old regions.now.regions }
+    ensures { FitPages pages.new regions.now.regions }
+{
+    enter_at(pages, 0x10000);
+    enter_at(pages, 0x11000);
+    enter_at(pages, 0x12000);
+}
+
 // Writes bytes at the ends of pages.
 fn write_bytes(regions: &Regions, pages: &mut Pages) -> Result<(), Miss>
     requires { FitPages pages.old regions.now.regions }
@@ -559,6 +570,10 @@ fn mapped_pages_are_zeros(rt: HostRuntime) -> Result<(), Fail> {
         &mut pages,
         &[(Step::Map(16, 3, 3, false), Answer::Done)],
     );
+
+    // The pages take no frames until they are entered.
+    assert!(rt; matches!(write_bytes(&regions, &mut pages), Err(Miss::Away(_))));
+    enter_pages(&regions, &mut pages);
     assert_eq!(rt; write_bytes(&regions, &mut pages), Ok(()));
     expect_answers(
         &rt,
@@ -571,6 +586,7 @@ fn mapped_pages_are_zeros(rt: HostRuntime) -> Result<(), Fail> {
             (Step::Map(18, 1, 1, false), Answer::Done),
         ],
     );
+    enter_pages(&regions, &mut pages);
     expect_bytes(
         &rt,
         &pages,

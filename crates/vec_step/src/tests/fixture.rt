@@ -8,6 +8,7 @@ use gpr_flags::{Flags, Gprs};
 use guest_pages::{Pages, Perms};
 use machine_state::{Kind, Miss, Stop};
 use num_lanes::Vec64;
+use page_fixture::map_in_frame;
 use row_table::{Class, Fields, Op, Row, find, row};
 use std::alloc::Global;
 use std::process::Abort;
@@ -40,9 +41,12 @@ pub(crate) struct Seat {
 /// Register n has 16 n and one more in each byte, and the last bytes before the missing page count up to FFH.
 pub(crate) fn make_seat(rt: &impl Abort, alloc: Global) -> Result<Seat, Fail> {
     let mut pages = Pages::new(alloc, 8, 16)?;
-    assert_eq!(rt; pages.map_page(PAGE, Perms(3)), Ok(()));
-    assert_eq!(rt; pages.map_page(READABLE - 0x1000, Perms(3)), Ok(()));
-    assert_eq!(rt; pages.map_page(READABLE, Perms(1)), Ok(()));
+    assert_eq!(rt; map_in_frame(&mut pages, PAGE, Perms(3)), Ok(()));
+    assert_eq!(rt;
+        map_in_frame(&mut pages, READABLE - 0x1000, Perms(3)),
+        Ok(())
+    );
+    assert_eq!(rt; map_in_frame(&mut pages, READABLE, Perms(1)), Ok(()));
     assert_eq!(rt; pages.write(LAST, &FROM_15_UP), Ok(()));
     let mut vec = VecFile::new();
     for n in 0..8 {

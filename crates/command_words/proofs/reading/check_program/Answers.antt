@@ -3,8 +3,9 @@ use Rattle.std.proofs.lemmas.Result.{err_from_is_err_and}
 use Rattle.std.proofs.lemmas.List.{length-map}
 use Rattle.std.proofs.lemmas.Bool.{lt-ltb, ltb-true, ltb-false}
 use Rattle.command_words.specs.Texts.{has_zero}
+use Rattle.command_words.specs.Reading.{read_at}
 use Rattle.command_words.specs.Reading.Role.{Place, Guest}
-use Rattle.command_words.proofs.ReadLemmas.{is-some, is-none, read_at, checked, path-missing, path-zero, path-empty, path-on}
+use Rattle.command_words.proofs.ReadLemmas.{is-some, is-none, checked, path-missing, path-zero, path-empty, path-on}
 use Rattle.command_words.proofs.reading.check_program.Goals as goal
 
 pub returns-in_err-check-clause-answer : goal.returns-in_err-check-clause-answer
@@ -27,7 +28,7 @@ returns-clause-answer c = λ given.
     let ws = map string_bytes c.args.words.now in
     let within = ltb-true _ _ c.in_ok-check.ensures in
     checked c.check-2.result (not c.is_empty.result) (record { word = c.args.place; kind = 6 })
-    (read_at given Place c.args.place ws) (read_at given (Guest c.args.place) (c.args.place + 1) ws)
+    (read_at ws given Place c.args.place) (read_at ws given (Guest c.args.place) (c.args.place + 1))
     c.check-2.ensures
     (λ e. path-on ws given c.args.place (omega (arith, within, length-map c.args.words.now string_bytes)) (c.requires.behind within)
     (ap has_zero (sym c.text_at-path.ensures) ∙ c.in_ok-check_text.ensures) (ap (λ (w : List ℕ). nat_lt 0 (length w)) (sym c.text_at-path.ensures)

@@ -8,7 +8,7 @@ use Rattle.guest_pages.proofs.Walks.{away_at-away}
 use Rattle.guest_files.specs.Moves.{read_piece}
 use Rattle.guest_transfers.specs.Moves.{away_access}
 use Rattle.guest_transfers.specs.Pieces.{asked, single}
-use Rattle.guest_transfers.proofs.FileLemmas.{piece_short, read_ended, read_on}
+use Rattle.guest_transfers.proofs.FileLemmas.{piece_longer, piece_short, read_ended, read_on}
 use Rattle.guest_transfers.proofs.PartLemmas.{asked-single, away_rest, is_away, low_range, moved_more, moved_none, next_part, ready_more, ready_none, single_part}
 use Rattle.guest_transfers.proofs.file_moves.copy_file.Goals as goal
 
@@ -75,3 +75,11 @@ loop-done-preserved c =
           ready_more (away_access (table_of c.args.pages.now)) (away_rest (table_of c.args.pages.now)) Write (single c.args.addr c.args.count) c.args.from c.loop-done.done
           (c.loop-done.done + c.in-Ok.n) part c.part_of-next.ensures c.loop-done.invariant.ready less free (omega (arith, short, came));
     }
+
+pub returns-in-Err-clause-next : goal.returns-in-Err-clause-next
+returns-in-Err-clause-next c =
+    let count : asked (single c.args.addr c.args.count) ≡ c.args.count = asked-single c.args.addr c.args.count in
+    let fits = (next_part Write (single c.args.addr c.args.count) c.loop-done.done (omega (arith, count, c.loop-done-test.true))).within in
+    let len = ap (λ a. a.len) c.part_of-next.ensures in
+    let longer = piece_longer c.args.files.now c.args.fd (c.args.at + c.loop-done.done) c.part_of-next.result.len (c.args.count - c.loop-done.done) (omega (arith, count, fits, len)) in
+    omega (arith, longer, c.in-Err.ensures.some)

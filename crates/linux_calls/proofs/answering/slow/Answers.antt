@@ -1,7 +1,6 @@
 use Rattle.linux_calls.specs.declared.kinds.Call.TheVariants.{Open, Fstat, Uname, ArchPrctl, ClockGettime, Openat}
-use Rattle.linux_calls.specs.Call.{rdi, rsi}
 use Rattle.linux_calls.specs.View.{view_of}
-use Rattle.linux_calls.proofs.CallLemmas.{part_of_does, record_needs, path_needs}
+use Rattle.linux_calls.proofs.CallLemmas.{part_of_does, first_needs}
 use Rattle.std.proofs.Common.{arith}
 use Rattle.linux_calls.specs.Table.{act}
 use Rattle.linux_calls.proofs.WaitLemmas.{begins_waiting}
@@ -13,8 +12,7 @@ returns-in-Fstat-clause-does c =
 
 pub returns-in-Fstat-clause-needs : goal.returns-in-Fstat-clause-needs
 returns-in-Fstat-clause-needs c =
-    record_needs Fstat (view_of c.args.w.now) (view_of c.fstat.new.w) (rsi c.fstat.new.w.gprs.now) 144 c.fstat.result c.requires.begins (rw c.in-Fstat.is at c.requires.is) c.fstat.ensures.does
-    (λ slot h. h) c.fstat.ensures.needs
+    first_needs Fstat (view_of c.args.w.now) (view_of c.fstat.new.w) c.fstat.result c.requires.begins (rw c.in-Fstat.is at c.requires.is) c.fstat.ensures.does c.fstat.ensures.needs
 
 pub returns-in-Uname-clause-does : goal.returns-in-Uname-clause-does
 returns-in-Uname-clause-does c =
@@ -22,8 +20,7 @@ returns-in-Uname-clause-does c =
 
 pub returns-in-Uname-clause-needs : goal.returns-in-Uname-clause-needs
 returns-in-Uname-clause-needs c =
-    record_needs Uname (view_of c.args.w.now) (view_of c.uname.new.w) (rdi c.uname.new.w.gprs.now) 390 c.uname.result c.requires.begins (rw c.in-Uname.is at c.requires.is) c.uname.ensures.does
-    (λ slot h. h) c.uname.ensures.needs
+    first_needs Uname (view_of c.args.w.now) (view_of c.uname.new.w) c.uname.result c.requires.begins (rw c.in-Uname.is at c.requires.is) c.uname.ensures.does c.uname.ensures.needs
 
 pub returns-in-ArchPrctl-clause-does : goal.returns-in-ArchPrctl-clause-does
 returns-in-ArchPrctl-clause-does c =
@@ -31,8 +28,7 @@ returns-in-ArchPrctl-clause-does c =
 
 pub returns-in-ArchPrctl-clause-needs : goal.returns-in-ArchPrctl-clause-needs
 returns-in-ArchPrctl-clause-needs c =
-    record_needs ArchPrctl (view_of c.args.w.now) (view_of c.arch_prctl.new.w) (rsi c.arch_prctl.new.w.gprs.now) 8 c.arch_prctl.result c.requires.begins (rw c.in-ArchPrctl.is at c.requires.is) c.arch_prctl.ensures.does
-    (λ slot h. h) c.arch_prctl.ensures.needs
+    first_needs ArchPrctl (view_of c.args.w.now) (view_of c.arch_prctl.new.w) c.arch_prctl.result c.requires.begins (rw c.in-ArchPrctl.is at c.requires.is) c.arch_prctl.ensures.does c.arch_prctl.ensures.needs
 
 pub returns-in-ClockGettime-clause-does : goal.returns-in-ClockGettime-clause-does
 returns-in-ClockGettime-clause-does c =
@@ -40,8 +36,7 @@ returns-in-ClockGettime-clause-does c =
 
 pub returns-in-ClockGettime-clause-needs : goal.returns-in-ClockGettime-clause-needs
 returns-in-ClockGettime-clause-needs c =
-    record_needs ClockGettime (view_of c.args.w.now) (view_of c.clock_gettime.new.w) (rsi c.clock_gettime.new.w.gprs.now) 16 c.clock_gettime.result c.requires.begins (rw c.in-ClockGettime.is at c.requires.is) c.clock_gettime.ensures.does
-    (λ slot h. h) c.clock_gettime.ensures.needs
+    first_needs ClockGettime (view_of c.args.w.now) (view_of c.clock_gettime.new.w) c.clock_gettime.result c.requires.begins (rw c.in-ClockGettime.is at c.requires.is) c.clock_gettime.ensures.does c.clock_gettime.ensures.needs
 
 pub returns-in-Open-clause-does : goal.returns-in-Open-clause-does
 returns-in-Open-clause-does c =
@@ -49,8 +44,7 @@ returns-in-Open-clause-does c =
 
 pub returns-in-Open-clause-needs : goal.returns-in-Open-clause-needs
 returns-in-Open-clause-needs c =
-    path_needs Open (view_of c.args.w.now) (view_of c.open.new.w) (rdi c.open.new.w.gprs.now) c.open.result c.requires.begins (rw c.in-Open.is at c.requires.is) c.open.ensures.does
-    (λ slot h. h) c.open.ensures.needs
+    first_needs Open (view_of c.args.w.now) (view_of c.open.new.w) c.open.result c.requires.begins (rw c.in-Open.is at c.requires.is) c.open.ensures.does c.open.ensures.needs
 
 pub returns-in-Openat-clause-does : goal.returns-in-Openat-clause-does
 returns-in-Openat-clause-does c =
@@ -58,8 +52,7 @@ returns-in-Openat-clause-does c =
 
 pub returns-in-Openat-clause-needs : goal.returns-in-Openat-clause-needs
 returns-in-Openat-clause-needs c =
-    path_needs Openat (view_of c.args.w.now) (view_of c.openat.new.w) (rsi c.openat.new.w.gprs.now) c.openat.result c.requires.begins (rw c.in-Openat.is at c.requires.is) c.openat.ensures.does
-    (λ slot h. h) c.openat.ensures.needs
+    first_needs Openat (view_of c.args.w.now) (view_of c.openat.new.w) c.openat.result c.requires.begins (rw c.in-Openat.is at c.requires.is) c.openat.ensures.does c.openat.ensures.needs
 
 pub returns-in-Fstat-clause-waits : goal.returns-in-Fstat-clause-waits
 returns-in-Fstat-clause-waits c =

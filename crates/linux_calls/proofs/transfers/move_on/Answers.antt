@@ -23,8 +23,8 @@ read_on-requires-clause-is g c = λ done. steady c.args.w.now.gprs.now c.args.w.
 pub draw_on-requires-clause-is : goal.draw_on-requires-clause-is
 draw_on-requires-clause-is g c = λ done. steady c.args.w.now.gprs.now c.args.w.now.files.now c.args.from done Draws tt (rw c.in-Draws.is at c.requires.is)
 
-pub returns-in-Takes : goal.returns-in-Takes
-returns-in-Takes g c = rw c.in-Takes.is (record {
+pub returns-in-Takes-clause-works : goal.returns-in-Takes-clause-works
+returns-in-Takes-clause-works g c = rw c.in-Takes.is (record {
   kept = c.take_on.ensures.kept;
   comes = comes_under (takes_rest c.args.w.now.progress.now.pieces c.args.from) (IsSome (g.S.Source.left c.args.input.now)) (TakesInput (view_of c.args.w.now) → IsSome (g.S.Source.left c.args.input.now))
       (view_of c.args.w.now) (view_of c.take_on.new.w) (streams (g.S.Source.left c.args.input.now) (g.O.Sink.taken c.args.out.now) (g.E.Sink.taken c.args.err.now))
@@ -37,8 +37,8 @@ returns-in-Takes g c = rw c.in-Takes.is (record {
   cause = c.take_on.ensures.cause (g.O.Sink.faults c.args.out.now) (g.E.Sink.faults c.args.err.now);
 })
 
-pub returns-in-PutsOut : goal.returns-in-PutsOut
-returns-in-PutsOut g c = rw c.in-PutsOut.is (record {
+pub returns-in-PutsOut-clause-works : goal.returns-in-PutsOut-clause-works
+returns-in-PutsOut-clause-works g c = rw c.in-PutsOut.is (record {
   kept = c.out_on.ensures.kept;
   comes = comes_under (out_rest c.args.w.now.progress.now.pieces c.args.from) (Unit {0}) (TakesInput (view_of c.args.w.now) → IsSome (g.S.Source.left c.args.input.now))
       (view_of c.args.w.now) (view_of c.out_on.new.w) (streams (g.S.Source.left c.args.input.now) (g.O.Sink.taken c.args.out.now) (g.E.Sink.taken c.args.err.now))
@@ -50,8 +50,8 @@ returns-in-PutsOut g c = rw c.in-PutsOut.is (record {
   cause = c.out_on.ensures.cause (g.S.Source.faults c.args.input.now) (g.E.Sink.faults c.args.err.now);
 })
 
-pub returns-in-PutsErr : goal.returns-in-PutsErr
-returns-in-PutsErr g c = rw c.in-PutsErr.is (record {
+pub returns-in-PutsErr-clause-works : goal.returns-in-PutsErr-clause-works
+returns-in-PutsErr-clause-works g c = rw c.in-PutsErr.is (record {
   kept = c.err_on.ensures.kept;
   comes = comes_under (err_rest c.args.w.now.progress.now.pieces c.args.from) (Unit {0}) (TakesInput (view_of c.args.w.now) → IsSome (g.S.Source.left c.args.input.now))
       (view_of c.args.w.now) (view_of c.err_on.new.w) (streams (g.S.Source.left c.args.input.now) (g.O.Sink.taken c.args.out.now) (g.E.Sink.taken c.args.err.now))
@@ -63,11 +63,11 @@ returns-in-PutsErr g c = rw c.in-PutsErr.is (record {
   cause = c.err_on.ensures.cause (g.S.Source.faults c.args.input.now) (g.O.Sink.faults c.args.out.now);
 })
 
-pub returns-in-Reads : goal.returns-in-Reads
-returns-in-Reads g c = rw c.in-Reads.is (works_part c.read_on.ensures.kept c.read_on.ensures.does c.read_on.ensures.needs c.read_on.ensures.waits)
+pub returns-in-Reads-clause-works : goal.returns-in-Reads-clause-works
+returns-in-Reads-clause-works g c = rw c.in-Reads.is (works_part c.read_on.ensures.kept c.read_on.ensures.does c.read_on.ensures.needs c.read_on.ensures.waits)
 
-pub returns-in-Writes : goal.returns-in-Writes
-returns-in-Writes g c = rw c.in-Writes.is (works_part c.write_on.ensures.kept c.write_on.ensures.does c.write_on.ensures.needs c.write_on.ensures.waits)
+pub returns-in-Writes-clause-works : goal.returns-in-Writes-clause-works
+returns-in-Writes-clause-works g c = rw c.in-Writes.is (works_part c.write_on.ensures.kept c.write_on.ensures.does c.write_on.ensures.needs c.write_on.ensures.waits)
 
-pub returns-in-Draws : goal.returns-in-Draws
-returns-in-Draws g c = rw c.in-Draws.is (works_part c.draw_on.ensures.kept c.draw_on.ensures.does c.draw_on.ensures.needs c.draw_on.ensures.waits)
+pub returns-in-Draws-clause-works : goal.returns-in-Draws-clause-works
+returns-in-Draws-clause-works g c = rw c.in-Draws.is (works_part c.draw_on.ensures.kept c.draw_on.ensures.does c.draw_on.ensures.needs c.draw_on.ensures.waits)

@@ -1,7 +1,6 @@
 use Rattle.std.proofs.Common.{◌+◌, ◌<◌, length, drop, subst}
 use Rattle.machine_state.specs.Regions.{AreRegions}
 use Rattle.region_map.proofs.Left.{drop_here}
-use Rattle.region_map.proofs.Paging.{resident_next}
 use Rattle.region_map.proofs.Covers.{cover_next, cover_none, cover_can}
 use Rattle.region_map.proofs.ranges.change_mapped.Goals as goal
 use Rattle.region_map.proofs.ranges.change_mapped.Goals.{in-Some, in-None}
@@ -25,14 +24,11 @@ loop-region-preserved c =
             left = left;
             changed = rw w.pages-is next;
             tallied = rw w.pages-is (λ t. w.change_pages.ensures.tallied (c.loop-region.invariant.tallied t));
-            resident = rw w.pages-is (λ e all. w.change_pages.ensures.resident (resident_next c.args.pages.now c.loop-region.pages c.loop-region.invariant.changed.size e)
-                (c.loop-region.invariant.resident e all));
           }
       | in-None w ↦
           record {
             left = left;
             changed = rw w.pages-is (cover_none c.args.change c.args.from c.args.to i xs c.args.pages.now c.loop-region.pages lt w.in-None.ensures.span c.loop-region.invariant.changed);
             tallied = rw w.pages-is c.loop-region.invariant.tallied;
-            resident = rw w.pages-is c.loop-region.invariant.resident;
           }
     ]

@@ -1,6 +1,5 @@
-use Rattle.std.proofs.Common.{◌≡◌, length, take, drop}
+use Rattle.std.proofs.Common.{take, drop}
 use Rattle.machine_state.specs.Regions.{AreRegions}
-use Rattle.guest_pages.specs.Changes.{AllResident}
 use Rattle.region_map.specs.Changes.{AreChanged}
 use Rattle.region_map.specs.Lists.{AreTallied}
 use Rattle.region_map.proofs.Covers.{covered}
@@ -11,5 +10,4 @@ invariant-loop-region l = record {
   left : AreRegions (drop l.region-index l.regions);
   changed : AreChanged l.change (covered l.from l.to (take l.region-index l.regions)) l.fn.pages l.pages;
   tallied : AreTallied l.fn.pages → AreTallied l.pages;
-  resident : l.fn.pages.frames ≡ length l.fn.pages.slots → AllResident l.fn.pages → AllResident l.pages;
 }

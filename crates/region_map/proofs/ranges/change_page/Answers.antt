@@ -20,4 +20,4 @@ pub returns-in-Ok-clause-changed : goal.returns-in-Ok-clause-changed
 returns-in-Ok-clause-changed c =
     let page_is : c.args.page * page_size / page_size ≡ c.args.page = omega arith in
     rw c.in-Map.is (subst (λ (page : ℕ). AreChanged (Map c.in-Map.perms c.in-Map.field-1) (λ other. other == page) c.args.pages.now c.map_page.new.self) page_is
-    (map_changes c.args.pages.now c.map_page.new.self (c.args.page * page_size / page_size) c.in-Map.perms c.in-Map.field-1 _ c.in-Ok.ensures.ok c.in-Ok.ensures.framed))
+    (map_changes c.args.pages.now c.map_page.new.self (c.args.page * page_size / page_size) c.in-Map.perms c.in-Map.field-1 c.in-Ok.ensures.ok))

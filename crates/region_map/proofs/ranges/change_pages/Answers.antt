@@ -1,5 +1,5 @@
 use Rattle.std.proofs.Common.{arith}
-use Rattle.region_map.proofs.Paging.{can_next, change_next, resident_next}
+use Rattle.region_map.proofs.Paging.{can_next, change_next}
 use Rattle.region_map.proofs.ranges.change_pages.Goals as goal
 
 pub change_page-requires-clause-can : goal.change_page-requires-clause-can
@@ -11,5 +11,4 @@ pub loop-page-preserved : goal.loop-page-preserved
 loop-page-preserved c = record {
   changed = change_next c.args.change c.args.from c.loop-page.page c.args.pages.now c.loop-page.pages c.change_page.new.pages (omega arith) c.loop-page.invariant.changed c.change_page.ensures.changed;
   tallied = λ t. c.change_page.ensures.tallied (c.loop-page.invariant.tallied t);
-  resident = λ e all. c.change_page.ensures.resident (resident_next c.args.pages.now c.loop-page.pages c.loop-page.invariant.changed.size e) (c.loop-page.invariant.resident e all);
 }

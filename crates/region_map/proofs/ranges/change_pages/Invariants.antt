@@ -1,5 +1,3 @@
-use Rattle.std.proofs.Common.{◌≡◌, length}
-use Rattle.guest_pages.specs.Changes.{AllResident}
 use Rattle.region_map.specs.Ranges.{is_in}
 use Rattle.region_map.specs.Changes.{AreChanged}
 use Rattle.region_map.specs.Lists.{AreTallied}
@@ -9,5 +7,4 @@ abbrev pub invariant-loop-page : goal.invariant-loop-page
 invariant-loop-page l = record {
   changed : AreChanged l.change (is_in l.from l.page) l.fn.pages l.pages;
   tallied : AreTallied l.fn.pages → AreTallied l.pages;
-  resident : l.fn.pages.frames ≡ length l.fn.pages.slots → AllResident l.fn.pages → AllResident l.pages;
 }

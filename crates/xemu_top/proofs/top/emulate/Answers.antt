@@ -1,50 +1,114 @@
-use Rattle.std.proofs.Common.{◌∙◌, sym, map, string_bytes, None, Ok, Err}
-use Rattle.guest_run.specs.Tally.{tally}
-use Rattle.guest_run.specs.Following.{sinks}
-use Rattle.xemu_top.specs.Command.{file_of}
-use Rattle.xemu_top.specs.Loading.{IsLoaded}
-use Rattle.xemu_top.proofs.CountLemmas.{cause-after, cause-words, complete}
-use Rattle.xemu_top.proofs.TopLemmas.{meets-read, held_of, files_told}
+use Rattle.std.proofs.Common.{sym, subst, length, map, string_bytes, Ok, Result}
+use Rattle.command_words.specs.declared.kinds.Command.{Command}
+use Rattle.command_words.specs.declared.kinds.WordFault.{WordFault}
+use Rattle.guest_run.specs.Guests.{Around, around}
+use Rattle.guest_run.specs.Tally.{IsCounted}
+use Rattle.xemu_top.specs.Command.{calls_made}
+use Rattle.xemu_top.specs.Headline.{failed_call}
+use Rattle.xemu_top.proofs.TopLemmas.{complete, meets-read, refused-answer, refused-cause, refused-headline, refused-refusal, refused-words, refuses-read}
 use Rattle.xemu_top.proofs.top.emulate.Goals as goal
 
-pub returns-in-Err-clause-headline : goal.returns-in-Err-clause-headline
-returns-in-Err-clause-headline g c holds on is =
-    meets-read (map string_bytes c.args.words.now) on _ (Err c.in-Err.fault) c.refuse.result (sym c.read_words.ensures.read ∙ c.in-Err.is)
-    ((rw c.words_line.ensures at (c.refuse.ensures.works (g.O.Sink.taken c.args.out.now) (g.O.Sink.faults c.args.out.now))).meets _ _ on is)
-
-pub returns-in-Err-clause-status : goal.returns-in-Err-clause-status
-returns-in-Err-clause-status g c = (c.refuse.ensures.works None 0).answer.status
-
-pub returns-in-Err-clause-no_machine : goal.returns-in-Err-clause-no_machine
-returns-in-Err-clause-no_machine g c = (c.refuse.ensures.works None 0).answer.no_machine
-
-pub returns-in-Err-clause-err_tells : goal.returns-in-Err-clause-err_tells
-returns-in-Err-clause-err_tells g c = (c.refuse.ensures.works None 0).course.err_tells
-
-pub returns-in-Err-clause-cause : goal.returns-in-Err-clause-cause
-returns-in-Err-clause-cause g c =
-    cause-words (map string_bytes c.args.words.now) c.in-Err.fault c.refuse.result.end _ _ (sym c.read_words.ensures.read ∙ c.in-Err.is)
-    c.refuse.ensures.ends ((c.refuse.ensures.works (g.O.Sink.taken c.args.out.now) (g.O.Sink.faults c.args.out.now)).course.cause
-    (tally (g.H.Host.faults c.args.host.now) (g.S.Source.faults c.args.input.now) 0 0))
-
 pub returns-in-Ok-clause-headline : goal.returns-in-Ok-clause-headline
-returns-in-Ok-clause-headline g c holds on is =
-    let held = held_of (g.H.Host.holds c.args.host.now) holds in
-    let file : IsLoaded c.load_file-loaded.result (file_of (map string_bytes c.args.words.now) c.in-Ok.command on.files) =
-    rw (files_told (g.H.Host.holds c.args.host.now) held.0 on held.1 is.files_are, ← c.path.ensures)
-    (c.load_file-loaded.ensures.file held.0 held.1) in
-    meets-read (map string_bytes c.args.words.now) on _ (Ok c.in-Ok.command) c.on_loaded.result (sym c.read_words.ensures.read ∙ c.in-Ok.is)
-    (c.on_loaded.ensures.meets _ file (g.H.Host.holds c.load_file-loaded.new.host) _ on (rw c.load_file-loaded.ensures.holds is))
+returns-in-Ok-clause-headline g c told held now was then on stands =
+    meets-read (map string_bytes c.args.words.now) (Ok c.in-Ok.command) (sym c.in-Ok.ensures.read) on now.page c.on_command.result _
+    (c.on_command.ensures.meets held now was then told on stands)
 
-pub returns-in-Ok-clause-cause : goal.returns-in-Ok-clause-cause
-returns-in-Ok-clause-cause g c =
-    cause-after (map string_bytes c.args.words.now) c.in-Ok.command (sym c.read_words.ensures.read ∙ c.in-Ok.is) _ _ _
-    (sinks (g.O.Sink.taken c.args.out.now) (g.O.Sink.faults c.args.out.now) (g.E.Sink.taken c.args.err.now) (g.E.Sink.faults c.args.err.now))
-    (sinks (g.O.Sink.taken c.on_loaded.new.out) (g.O.Sink.faults c.on_loaded.new.out) (g.E.Sink.taken c.on_loaded.new.err) (g.E.Sink.faults c.on_loaded.new.err))
-    c.on_loaded.result.end c.load_file-loaded.result c.load_file-loaded.ensures.cause c.on_loaded.ensures.ends c.on_loaded.ensures.course
+pub returns-in-Ok-clause-refusal : goal.returns-in-Ok-clause-refusal
+returns-in-Ok-clause-refusal g c held was on files =
+    refuses-read (map string_bytes c.args.words.now) (Ok c.in-Ok.command) (sym c.in-Ok.ensures.read) on c.on_command.result.end
+    (c.on_command.ensures.refuses held was on files)
 
 pub returns-in-Ok-clause-complete : goal.returns-in-Ok-clause-complete
 returns-in-Ok-clause-complete g c runnable none =
-    complete (g.H.Host.holds c.args.host.now) (map string_bytes c.args.words.now) c.in-Ok.command (sym c.read_words.ensures.read ∙ c.in-Ok.is)
-    c.load_file-loaded.result c.on_loaded.result.end _ _
-    (rw (← c.path.ensures) c.load_file-loaded.ensures.file) runnable c.on_loaded.ensures.ends (returns-in-Ok-clause-cause g c) none
+    let words = map string_bytes c.args.words.now in
+    let command : Command = c.in-Ok.command in
+    let before : Around = around (g.H.Host.holds c.args.host.now) (g.H.Host.opened c.args.host.now) (g.H.Host.faults c.args.host.now)
+    (g.S.Source.left c.args.input.now) (g.S.Source.faults c.args.input.now) (g.O.Sink.taken c.args.out.now) (g.O.Sink.faults c.args.out.now)
+    (g.E.Sink.taken c.args.err.now) (g.E.Sink.faults c.args.err.now) in
+    let after : Around = around (g.H.Host.holds c.on_command.new.host) (g.H.Host.opened c.on_command.new.host) (g.H.Host.faults c.on_command.new.host)
+    (g.S.Source.left c.on_command.new.input) (g.S.Source.faults c.on_command.new.input) (g.O.Sink.taken c.on_command.new.out) (g.O.Sink.faults c.on_command.new.out)
+    (g.E.Sink.taken c.on_command.new.err) (g.E.Sink.faults c.on_command.new.err) in
+    complete (g.H.Host.holds c.args.host.now) words c.on_command.result.end before.tally after.tally
+    (λ held was on files. refuses-read words (Ok command) (sym c.in-Ok.ensures.read) on c.on_command.result.end
+    (c.on_command.ensures.refuses held was on files))
+    runnable
+    (subst (λ (r : Result Command WordFault). IsCounted (calls_made r) (failed_call c.on_command.result.end) before.tally after.tally)
+    c.in-Ok.ensures.read c.on_command.ensures.passes.cause)
+    none
+
+pub returns-in-Err-clause-headline : goal.returns-in-Err-clause-headline
+returns-in-Err-clause-headline g c =
+    let words = map string_bytes c.args.words.now in
+    let before : Around = around (g.H.Host.holds c.args.host.now) (g.H.Host.opened c.args.host.now) (g.H.Host.faults c.args.host.now)
+    (g.S.Source.left c.args.input.now) (g.S.Source.faults c.args.input.now) (g.O.Sink.taken c.args.out.now) (g.O.Sink.faults c.args.out.now)
+    (g.E.Sink.taken c.args.err.now) (g.E.Sink.faults c.args.err.now) in
+    let after : Around = around (g.H.Host.holds c.args.host.now) (g.H.Host.opened c.args.host.now) (g.H.Host.faults c.args.host.now)
+    (g.S.Source.left c.args.input.now) (g.S.Source.faults c.args.input.now) (g.O.Sink.taken c.args.out.now) (g.O.Sink.faults c.args.out.now)
+    (g.E.Sink.taken c.stop.new.err) (g.E.Sink.faults c.stop.new.err) in
+    λ told held now was then on stands. refused-headline words c.in-Err.fault before after c.stop.result (sym c.in-Err.ensures.read) (c.stop.ensures before) on now.page stands
+
+pub returns-in-Err-clause-refusal : goal.returns-in-Err-clause-refusal
+returns-in-Err-clause-refusal g c =
+    let words = map string_bytes c.args.words.now in
+    let before : Around = around (g.H.Host.holds c.args.host.now) (g.H.Host.opened c.args.host.now) (g.H.Host.faults c.args.host.now)
+    (g.S.Source.left c.args.input.now) (g.S.Source.faults c.args.input.now) (g.O.Sink.taken c.args.out.now) (g.O.Sink.faults c.args.out.now)
+    (g.E.Sink.taken c.args.err.now) (g.E.Sink.faults c.args.err.now) in
+    let after : Around = around (g.H.Host.holds c.args.host.now) (g.H.Host.opened c.args.host.now) (g.H.Host.faults c.args.host.now)
+    (g.S.Source.left c.args.input.now) (g.S.Source.faults c.args.input.now) (g.O.Sink.taken c.args.out.now) (g.O.Sink.faults c.args.out.now)
+    (g.E.Sink.taken c.stop.new.err) (g.E.Sink.faults c.stop.new.err) in
+    λ held was on files. refused-refusal words c.in-Err.fault before after c.stop.result (sym c.in-Err.ensures.read) (c.stop.ensures before) on
+
+pub returns-in-Err-clause-cause : goal.returns-in-Err-clause-cause
+returns-in-Err-clause-cause g c =
+    let words = map string_bytes c.args.words.now in
+    let before : Around = around (g.H.Host.holds c.args.host.now) (g.H.Host.opened c.args.host.now) (g.H.Host.faults c.args.host.now)
+    (g.S.Source.left c.args.input.now) (g.S.Source.faults c.args.input.now) (g.O.Sink.taken c.args.out.now) (g.O.Sink.faults c.args.out.now)
+    (g.E.Sink.taken c.args.err.now) (g.E.Sink.faults c.args.err.now) in
+    let after : Around = around (g.H.Host.holds c.args.host.now) (g.H.Host.opened c.args.host.now) (g.H.Host.faults c.args.host.now)
+    (g.S.Source.left c.args.input.now) (g.S.Source.faults c.args.input.now) (g.O.Sink.taken c.args.out.now) (g.O.Sink.faults c.args.out.now)
+    (g.E.Sink.taken c.stop.new.err) (g.E.Sink.faults c.stop.new.err) in
+    refused-cause words c.in-Err.fault before after c.stop.result (sym c.in-Err.ensures.read) (c.stop.ensures before)
+
+pub returns-in-Err-clause-words : goal.returns-in-Err-clause-words
+returns-in-Err-clause-words g c =
+    let words = map string_bytes c.args.words.now in
+    let before : Around = around (g.H.Host.holds c.args.host.now) (g.H.Host.opened c.args.host.now) (g.H.Host.faults c.args.host.now)
+    (g.S.Source.left c.args.input.now) (g.S.Source.faults c.args.input.now) (g.O.Sink.taken c.args.out.now) (g.O.Sink.faults c.args.out.now)
+    (g.E.Sink.taken c.args.err.now) (g.E.Sink.faults c.args.err.now) in
+    let after : Around = around (g.H.Host.holds c.args.host.now) (g.H.Host.opened c.args.host.now) (g.H.Host.faults c.args.host.now)
+    (g.S.Source.left c.args.input.now) (g.S.Source.faults c.args.input.now) (g.O.Sink.taken c.args.out.now) (g.O.Sink.faults c.args.out.now)
+    (g.E.Sink.taken c.stop.new.err) (g.E.Sink.faults c.stop.new.err) in
+    refused-words words c.in-Err.fault before after c.stop.result (sym c.in-Err.ensures.read) (c.stop.ensures before) (length c.args.words.now)
+
+pub returns-in-Err-clause-status : goal.returns-in-Err-clause-status
+returns-in-Err-clause-status g c =
+    let words = map string_bytes c.args.words.now in
+    let before : Around = around (g.H.Host.holds c.args.host.now) (g.H.Host.opened c.args.host.now) (g.H.Host.faults c.args.host.now)
+    (g.S.Source.left c.args.input.now) (g.S.Source.faults c.args.input.now) (g.O.Sink.taken c.args.out.now) (g.O.Sink.faults c.args.out.now)
+    (g.E.Sink.taken c.args.err.now) (g.E.Sink.faults c.args.err.now) in
+    let after : Around = around (g.H.Host.holds c.args.host.now) (g.H.Host.opened c.args.host.now) (g.H.Host.faults c.args.host.now)
+    (g.S.Source.left c.args.input.now) (g.S.Source.faults c.args.input.now) (g.O.Sink.taken c.args.out.now) (g.O.Sink.faults c.args.out.now)
+    (g.E.Sink.taken c.stop.new.err) (g.E.Sink.faults c.stop.new.err) in
+    (refused-answer words c.in-Err.fault before after c.stop.result (sym c.in-Err.ensures.read) (c.stop.ensures before)).status
+
+pub returns-in-Err-clause-no_machine : goal.returns-in-Err-clause-no_machine
+returns-in-Err-clause-no_machine g c =
+    let words = map string_bytes c.args.words.now in
+    let before : Around = around (g.H.Host.holds c.args.host.now) (g.H.Host.opened c.args.host.now) (g.H.Host.faults c.args.host.now)
+    (g.S.Source.left c.args.input.now) (g.S.Source.faults c.args.input.now) (g.O.Sink.taken c.args.out.now) (g.O.Sink.faults c.args.out.now)
+    (g.E.Sink.taken c.args.err.now) (g.E.Sink.faults c.args.err.now) in
+    let after : Around = around (g.H.Host.holds c.args.host.now) (g.H.Host.opened c.args.host.now) (g.H.Host.faults c.args.host.now)
+    (g.S.Source.left c.args.input.now) (g.S.Source.faults c.args.input.now) (g.O.Sink.taken c.args.out.now) (g.O.Sink.faults c.args.out.now)
+    (g.E.Sink.taken c.stop.new.err) (g.E.Sink.faults c.stop.new.err) in
+    (refused-answer words c.in-Err.fault before after c.stop.result (sym c.in-Err.ensures.read) (c.stop.ensures before)).no_machine
+
+pub returns-in-Err-clause-tells : goal.returns-in-Err-clause-tells
+returns-in-Err-clause-tells g c =
+    let words = map string_bytes c.args.words.now in
+    let before : Around = around (g.H.Host.holds c.args.host.now) (g.H.Host.opened c.args.host.now) (g.H.Host.faults c.args.host.now)
+    (g.S.Source.left c.args.input.now) (g.S.Source.faults c.args.input.now) (g.O.Sink.taken c.args.out.now) (g.O.Sink.faults c.args.out.now)
+    (g.E.Sink.taken c.args.err.now) (g.E.Sink.faults c.args.err.now) in
+    let after : Around = around (g.H.Host.holds c.args.host.now) (g.H.Host.opened c.args.host.now) (g.H.Host.faults c.args.host.now)
+    (g.S.Source.left c.args.input.now) (g.S.Source.faults c.args.input.now) (g.O.Sink.taken c.args.out.now) (g.O.Sink.faults c.args.out.now)
+    (g.E.Sink.taken c.stop.new.err) (g.E.Sink.faults c.stop.new.err) in
+    (c.stop.ensures before).keeps.streams

@@ -1,5 +1,5 @@
 use Rattle.std.proofs.Common.{◌≡◌, ap, reverse, refl, arith, length}
-use Rattle.guest_pages.proofs.Maps.{blank_kept, blank_there, blank_resident}
+use Rattle.guest_pages.proofs.Maps.{blank_kept, blank_there}
 use Rattle.guest_pages.proofs.pages.Pages.new.Goals as goal
 
 pub invariant_of-result : goal.invariant_of-result
@@ -10,8 +10,5 @@ invariant_of-result c =
     let len : length c.in_ok-slots.slots.items ≡ c.args.pages = omega arith in
     blank_kept c.in_ok-slots.slots.items _ _ _ _ c.in_ok-lists.lists _ c.in_ok-slots.ensures.none (omega arith) c.loop.invariant.1 (omega arith) (omega arith) (rw len c.in_ok-lists.ensures.listed) c.in_ok-order.ensures.empty c.requires.some c.in_ok-order.ensures.room
 
-pub returns-clause-blank : goal.returns-clause-blank
-returns-clause-blank c = let slots = c.in_ok-slots.ensures.len in blank_there _ c.args.frames c.args.pages c.in_ok-slots.ensures.none refl (omega arith) (ap reverse c.in_ok-order.ensures.empty)
-
-pub returns-clause-resident : goal.returns-clause-resident
-returns-clause-resident c = blank_resident _ c.in_ok-slots.ensures.none
+pub returns : goal.returns
+returns c = record { blank = let slots = c.in_ok-slots.ensures.len in blank_there _ c.args.frames c.args.pages c.in_ok-slots.ensures.none refl (omega arith) (ap reverse c.in_ok-order.ensures.empty) }

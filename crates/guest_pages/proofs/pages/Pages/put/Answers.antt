@@ -1,4 +1,4 @@
-use Rattle.std.proofs.Common.{◌≡◌, reverse, None, refl, get_or, sym, ap, ◌∙◌, ◌/◌}
+use Rattle.std.proofs.Common.{◌≡◌, reverse, None, get_or, sym, ap, ◌/◌}
 use Rattle.std.specs.Option.{option_map}
 use Rattle.std.proofs.lemmas.List.{get_or_read}
 use Rattle.machine_state.specs.declared.kinds.Miss.TheVariants.{Away}

@@ -7,5 +7,5 @@ pub unreachable-requires : goal.unreachable-requires
 unreachable-requires c =
     let from : ℕ = c.args.first * 4096 / page_size in
     let to : ℕ = from + (c.args.end - c.args.first) in
-    map_allowed c.args.self.now.pages c.args.self.now.regions.regions (record { 0 = 3 }) c.args.file from to c.requires.ready (omega arith) (omega arith) (omega arith)
+    map_allowed c.args.self.now.pages c.args.self.now.regions.regions (record { 0 = 3 }) c.args.file from to c.requires.fit (omega arith) (omega arith) (omega arith)
     (record { few = c.requires.room.few; room = omega arith }) (c.in-Err.ensures.full.0 refl)
