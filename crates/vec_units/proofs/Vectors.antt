@@ -1,8 +1,6 @@
 -- From the lanes that are computed to what an instruction gives.
-use Rattle.std.proofs.Common.{◌≡◌, ℕ, false, cond, ◌+◌, ◌*◌, ◌/◌, ◌<◌, ◌≤◌, ◌&&◌, List, length, take, drop, refl, ap, sym, ◌∙◌, subst, ◌-◌, arith, le-ltb, length-take-le, nat_lt, inl, inr}
+use Rattle.std.proofs.Common.{◌≡◌, ℕ, false, cond, ◌+◌, ◌*◌, ◌/◌, ◌<◌, ◌≤◌, ◌&&◌, List, length, take, refl, ap, sym, ◌∙◌, subst, ◌-◌, arith, le-ltb, length-take-le, nat_lt, inl, inr}
 use Rattle.std.proofs.lemmas.Bool.{cases_lt}
-use Rattle.std.proofs.lemmas.List.{drop-take, take-take}
-use Rattle.std.specs.Simd.Lanes.{number_l}
 use Rattle.gpr_flags.specs.Numbers.{has_bit, is_negative}
 use Rattle.num_lanes.specs.Lane.{lane_of, LanesAre, joined}
 use Rattle.num_lanes.proofs.Joins.{joined-same}
@@ -10,14 +8,12 @@ use Rattle.num_lanes.proofs.LaneLemmas.{below_lane}
 use Rattle.vec_units.specs.declared.forms.Form.{Form}
 use Rattle.vec_units.specs.Results.{part, computed_lane, left_out, placed_lane, taken_by, vector_result, signs_in, mask_of}
 use Rattle.vec_units.proofs.BitLemmas.{bits-same}
+use Rattle.vec_units.proofs.Splices.{lane-take}
 
 -- a lane of the vectors is one of the register
 lane-part : (f : Form) (w i : ℕ) (v : List ℕ) → i * w + w ≤ f.len → lane_of w (part f v) i ≡ lane_of w v i
 lane-part f w i v h =
-    let e : f.len - 0 ≡ i * w + (f.len - i * w) = omega arith in
-    ap (λ (n : ℕ). number_l 256 (take w (drop (i * w) (take n v)))) e
-    ∙ ap (λ (ys : List ℕ). number_l 256 (take w ys)) (drop-take (i * w) (f.len - i * w) v)
-    ∙ ap (number_l 256) (take-take w (f.len - i * w) (drop (i * w) v) (omega arith))
+    let e : f.len - 0 ≡ f.len = omega arith in ap (λ (n : ℕ). lane_of w (take n v) i) e ∙ lane-take w i f.len v h
 
 length-part : (f : Form) (v : List ℕ) → f.len ≤ length v → length (part f v) ≡ f.len
 length-part f v h = let e : f.len - 0 ≡ f.len = omega arith in ap (λ (n : ℕ). length (take n v)) e ∙ length-take-le f.len v h

@@ -1,5 +1,5 @@
 -- What a vector instruction gives (SDM volume 2, 2.7.6, and the pages of the instructions).
-use Rattle.std.specs.Prelude.{ℕ, zero, suc, ◌+◌, ◌-◌, ◌*◌, ◌/◌, ◌%◌, ◌^◌, ◌==◌, Bool, true, false, ◌&&◌, ◌||◌, if◌then◌else◌, nat_lt, List, slice_range, slice_get, bit_and, Option}
+use Rattle.std.specs.Prelude.{ℕ, zero, suc, ◌+◌, ◌-◌, ◌*◌, ◌/◌, ◌%◌, ◌^◌, ◌==◌, Bool, true, false, ◌&&◌, ◌||◌, if◌then◌else◌, nat_lt, List, ◌++◌, take, drop, replicate, slice_range, slice_get, bit_and, Option}
 use Rattle.std.specs.Option.{option_map}
 use Rattle.row_table.specs.declared.kinds.Row.{Row}
 use Rattle.row_table.specs.declared.kinds.Decoded.{Decoded}
@@ -61,6 +61,14 @@ placed_lane w f computed dest first mask i =
     if nat_lt i f.lanes then (if has_bit mask i then computed i else left_out f.masking f.zeroing (dest i) (first i))
     else if nat_lt i (f.len / w) then 0
     else if f.keeps then dest i else 0
+
+-- whether a mask has each of the lowest lanes
+abbrev pub has_all : (lanes mask : ℕ) → Bool
+has_all lanes mask = mask % 2 ^ lanes == 2 ^ lanes - 1
+
+-- the bytes that stand above the lanes of the result: zeros, but above the vectors of a legacy row what stood there
+abbrev pub above : Form → (dest : List ℕ) → List ℕ
+above f dest = if f.keeps then take f.len (replicate 64 0) ++ drop f.len dest else replicate 64 0
 
 -- the register
 unfoldable pub vector_result : Form → (dest first second : List ℕ) → (mask : ℕ) → List ℕ

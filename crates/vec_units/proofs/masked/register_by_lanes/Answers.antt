@@ -1,5 +1,5 @@
 use Rattle.num_lanes.proofs.Fill.{filled-none, filled-more, filled-is}
-use Rattle.vec_units.proofs.masked.register.Goals as goal
+use Rattle.vec_units.proofs.masked.register_by_lanes.Goals as goal
 
 pub loop-lane-init : goal.loop-lane-init
 loop-lane-init g c = filled-none _ _
