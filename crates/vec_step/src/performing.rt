@@ -8,7 +8,7 @@ ghost use Rattle.guest_pages.specs.Walk.{walk as walk_of};
 ghost use Rattle.guest_pages.specs.Changes.{KeepsTable};
 ghost use Rattle.vec_step.specs.Plan.{vector_access, read_accesses, span_accesses, source_accesses, target_accesses};
 ghost use Rattle.vec_step.specs.Fits.{PlanFits, SpanFits, SourceFits, TargetFits};
-ghost use Rattle.vec_step.specs.Left.{padded, span_value, spread, operand_of, value_of, mask_of, gives_mask as gives_mask_by, number_of as number_of_result, extended_at, gprs_at, byte_at, extended_left, gprs_left, byte_left, flags_at, flags_left, tested_flags};
+ghost use Rattle.vec_step.specs.Left.{padded, span_value, spread, operand_of, value_of, mask_of, gives_mask as gives_mask_by, number_of as number_of_result, extended_left, gprs_left, byte_left, flags_left, tested_flags};
 
 use crate::kinds::{Source, Span, Target, VectorPlan};
 use crate::spreading::spread_lowest;
@@ -20,13 +20,6 @@ use num_lanes::{Vec64, get_lane};
 use row_table::Op;
 use vec_file::VecFile;
 use vec_units::{bits, vector};
-
-/// What comes of a vector instruction: a register, and a mask of bits.
-#[derive(Clone, Copy)]
-struct Outcome {
-    value: Vec64,
-    mask: u64,
-}
 
 // ---- the walk along the access list
 
@@ -173,21 +166,28 @@ fn operand(source: &Source, gprs: &Gprs, vec: &VecFile, pages: &Pages) -> Vec64
 
 // ---- what comes of it, and where it goes
 
-/// What comes of a vector instruction whose accesses can be made.
-#[tactic(auto, unfolding(crate::specs::Left::value_of, crate::specs::Left::mask_of))]
-fn computed(i: &VectorPlan, gprs: &Gprs, vec: &VecFile, pages: &Pages) -> Outcome
+/// The register that comes of a vector instruction whose accesses can be made.
+#[tactic(auto, unfolding(crate::specs::Left::value_of))]
+fn value(i: &VectorPlan, gprs: &Gprs, vec: &VecFile, pages: &Pages) -> Vec64
     requires fits { PlanFits i.now }
     requires ready { walk_of (table_of pages.now) (read_accesses i.now) ≡ None }
-    ensures value { (w : Swap) → result.value ≡ value_of i.now gprs.now vec.now (byte_of pages.now w) }
-    ensures mask { (w : Swap) → result.mask ≡ mask_of i.now gprs.now vec.now (byte_of pages.now w) }
+    ensures { (w : Swap) → result ≡ value_of i.now gprs.now vec.now (byte_of pages.now w) }
 {
     let first = operand(&i.first, gprs, vec, pages);
     let second = operand(&i.second, gprs, vec, pages);
-    let old = vec.zmm(i.old);
-    Outcome {
-        value: vector(&i.form, old, &first, &second, i.mask),
-        mask: bits(&i.form, old, &first, &second, i.mask),
-    }
+    vector(&i.form, vec.zmm(i.old), &first, &second, i.mask)
+}
+
+/// The mask of bits that comes of it.
+#[tactic(auto, unfolding(crate::specs::Left::mask_of))]
+fn mask(i: &VectorPlan, gprs: &Gprs, vec: &VecFile, pages: &Pages) -> u64
+    requires fits { PlanFits i.now }
+    requires ready { walk_of (table_of pages.now) (read_accesses i.now) ≡ None }
+    ensures { (w : Swap) → result ≡ mask_of i.now gprs.now vec.now (byte_of pages.now w) }
+{
+    let first = operand(&i.first, gprs, vec, pages);
+    let second = operand(&i.second, gprs, vec, pages);
+    bits(&i.form, vec.zmm(i.old), &first, &second, i.mask)
 }
 
 /// Whether the result of an operation is a mask of bits.
@@ -225,39 +225,16 @@ fn lowest(width: u8, value: &Vec64) -> u64
 }
 
 /// The number for a general register.
-fn number_for(i: &VectorPlan, o: &Outcome) -> u64
-    requires { PlanFits i.now }
-    ensures { result ≡ number_of_result i.now o.now.value o.now.mask }
+fn number_for(i: &VectorPlan, gprs: &Gprs, vec: &VecFile, pages: &Pages) -> u64
+    requires fits { PlanFits i.now }
+    requires ready { walk_of (table_of pages.now) (read_accesses i.now) ≡ None }
+    ensures { (w : Swap) → result ≡ number_of_result i.now (value_of i.now gprs.now vec.now (byte_of pages.now w))
+        (mask_of i.now gprs.now vec.now (byte_of pages.now w)) }
 {
     if gives_mask(i.form.op) {
-        o.mask
+        mask(i, gprs, vec, pages)
     } else {
-        lowest(i.form.width, &o.value)
-    }
-}
-
-fn put_vectors(target: &Target, o: &Outcome, vec: &mut VecFile)
-    requires { TargetFits target.now }
-    ensures { vec.new ≡ extended_at target.now o.now.value o.now.mask vec.old }
-{
-    match target {
-        Target::Register(n) => vec.set_zmm(*n, &o.value),
-        Target::Mask(n) => vec.set_k(*n, o.mask),
-        Target::Memory(_) | Target::General(_) | Target::Flags | Target::Nowhere => {}
-    }
-}
-
-fn put_general(target: &Target, number: u64, gprs: &mut Gprs)
-    requires { TargetFits target.now }
-    ensures { gprs.new ≡ gprs_at target.now number gprs.old }
-{
-    match target {
-        Target::General(n) => gprs.set(*n, number),
-        Target::Register(_)
-        | Target::Mask(_)
-        | Target::Memory(_)
-        | Target::Flags
-        | Target::Nowhere => {}
+        lowest(i.form.width, &value(i, gprs, vec, pages))
     }
 }
 
@@ -276,36 +253,8 @@ fn tested(mask: u64, flags: &Flags) -> Flags
     }
 }
 
-fn put_flags(target: &Target, mask: u64, flags: &mut Flags)
-    ensures { flags.new ≡ flags_at target.now mask flags.old }
-{
-    match target {
-        Target::Flags => *flags = tested(mask, flags),
-        Target::Register(_)
-        | Target::Mask(_)
-        | Target::Memory(_)
-        | Target::General(_)
-        | Target::Nowhere => {}
-    }
-}
-
-fn put_bytes(target: &Target, value: &Vec64, pages: &mut Pages)
-    requires fits { TargetFits target.now }
-    requires ready { walk_of (table_of pages.old) (target_accesses target.now) ≡ None }
-    ensures byte { (w : Swap) → byte_of pages.new w ≡ byte_at target.now value.now (byte_of pages.old w) }
-    ensures table { KeepsTable pages.old pages.new }
-{
-    match target {
-        Target::Memory(m) => store_ready(pages, m.addr, m.width, m.lanes, m.mask, value),
-        Target::Register(_)
-        | Target::Mask(_)
-        | Target::General(_)
-        | Target::Flags
-        | Target::Nowhere => {}
-    }
-}
-
-/// Performs a vector instruction whose accesses can be made.
+/// Performs a vector instruction whose accesses can be made. Of the register and the mask that may come of it, the one that goes
+/// somewhere is computed.
 #[tactic(auto, unfolding(crate::specs::Left::extended_left, crate::specs::Left::gprs_left, crate::specs::Left::flags_left, crate::specs::Left::byte_left))]
 pub fn perform(
     i: &VectorPlan,
@@ -322,9 +271,24 @@ pub fn perform(
     ensures byte { (w : Swap) → byte_of pages.new w ≡ byte_left i.now gprs.old vec.old (byte_of pages.old w) }
     ensures table { KeepsTable pages.old pages.new }
 {
-    let outcome = computed(i, gprs, vec, pages);
-    put_bytes(&i.target, &outcome.value, pages);
-    put_general(&i.target, number_for(i, &outcome), gprs);
-    put_flags(&i.target, outcome.mask, flags);
-    put_vectors(&i.target, &outcome, vec);
+    match &i.target {
+        Target::Register(n) => {
+            let value = value(i, gprs, vec, pages);
+            vec.set_zmm(*n, &value);
+        }
+        Target::Memory(m) => {
+            let value = value(i, gprs, vec, pages);
+            store_ready(pages, m.addr, m.width, m.lanes, m.mask, &value);
+        }
+        Target::Mask(n) => {
+            let mask = mask(i, gprs, vec, pages);
+            vec.set_k(*n, mask);
+        }
+        Target::General(n) => {
+            let number = number_for(i, gprs, vec, pages);
+            gprs.set(*n, number);
+        }
+        Target::Flags => *flags = tested(mask(i, gprs, vec, pages), flags),
+        Target::Nowhere => {}
+    }
 }

@@ -1,7 +1,7 @@
 use Rattle.guest_pages.specs.Pages.{table_of}
 use Rattle.vec_step.specs.Plan.{source_accesses}
 use Rattle.vec_step.proofs.VectorWalks.{both-free}
-use Rattle.vec_step.proofs.performing.computed.Goals as goal
+use Rattle.vec_step.proofs.performing.value.Goals as goal
 
 pub operand-first-requires-clause-ready : goal.operand-first-requires-clause-ready
 operand-first-requires-clause-ready c =
