@@ -6,6 +6,7 @@ use super::*;
 use gpr_flags::{RAX, RDX};
 use host_edge::{HostCall, MemHost, MemSink, MemSource};
 use std::alloc::{AllocError, Global};
+use std::process::Abort;
 use std::test::Fail;
 
 mod files;
@@ -431,31 +432,7 @@ fn commands_end_and_say_what_they_should(rt: HostRuntime) -> Result<(), Fail> {
         image_row(63, 1, 63, "xemu: image 1 at 63\n"),
         image_row(119, 10, 32, "xemu: image 10 at 32\n"),
         image_row(158, 12, 96, "xemu: image 12 at 96\n"),
-        run_row(&["run", "hello"], End::Exit(0), 0, "hello\n", ""),
         run_row(&["run", "none"], missing, 74, "", ""),
-        run_row(
-            &["run", "--budget", "3", "--report", "hello"],
-            End::Budget,
-            75,
-            "",
-            "xemu: budget 3\n",
-        ),
-        run_row(
-            &["run", "--budget", "7", "hello"],
-            End::Budget,
-            75,
-            "hello\n",
-            "",
-        ),
-        run_row(
-            &[
-                "run", "--budget", "8", "--report", "--pages", "512", "--seed", "1", "hello",
-            ],
-            End::Exit(0),
-            0,
-            "hello\n",
-            "xemu: exit 0 steps 8\n",
-        ),
     ] {
         let len = row.len.min(HELLO.len());
         let left = run_command(alloc, row.words, &HELLO[..len], WIDE, WIDE)?;
@@ -463,6 +440,39 @@ fn commands_end_and_say_what_they_should(rt: HostRuntime) -> Result<(), Fail> {
         assert_eq!(rt; left.ended.status, row.status);
         assert_eq!(rt; left.out.bytes(), row.out.as_bytes());
         assert_eq!(rt; left.err.bytes(), row.err.as_bytes());
+    }
+    Ok(())
+}
+
+/// Each row has the words behind those of the frames, the end, the status, the output and the error output.
+#[test]
+fn runs_end_and_say_what_they_should(rt: HostRuntime) -> Result<(), Fail> {
+    let rows: [(&[&str], End, u8, &str, &str); 4] = [
+        (&["hello"], End::Exit(0), 0, "hello\n", ""),
+        (
+            &["--budget", "3", "--report", "hello"],
+            End::Budget,
+            75,
+            "",
+            "xemu: budget 3\n",
+        ),
+        (&["--budget", "7", "hello"], End::Budget, 75, "hello\n", ""),
+        (
+            &["--budget", "8", "--report", "--seed", "1", "hello"],
+            End::Exit(0),
+            0,
+            "hello\n",
+            "xemu: exit 0 steps 8\n",
+        ),
+    ];
+    for (words, end, status, out, err) in rows {
+        for frames in FRAMES {
+            let left = run_program(rt.alloc(), frames, words, &HELLO, WIDE, WIDE)?;
+            assert_eq!(rt; left.ended.end, end);
+            assert_eq!(rt; left.ended.status, status);
+            assert_eq!(rt; left.out.bytes(), out.as_bytes());
+            assert_eq!(rt; left.err.bytes(), err.as_bytes());
+        }
     }
     Ok(())
 }
@@ -510,20 +520,33 @@ fn a_program_sees_its_start_stack(rt: HostRuntime) -> Result<(), Fail> {
     Ok(())
 }
 
+/// A line of which three bytes were put ended the command, behind this output.
+fn expect_front(rt: &impl Abort, left: &Left, text: &str) {
+    assert_eq!(rt; left.ended.end, End::Host(HostCall::PutErr));
+    assert_eq!(rt; left.ended.status, 74);
+    assert_eq!(rt; left.out.bytes(), text.as_bytes());
+    assert_eq!(rt; left.err.bytes(), "xem".as_bytes());
+    assert_eq!(rt; steps_of(&left.ended), None);
+}
+
 #[test]
 fn a_line_that_cannot_be_put_ends_the_command(rt: HostRuntime) -> Result<(), Fail> {
     let err = Room {
         bytes: 100,
         fail: &[(1, 3)],
     };
-    let rows: [(&[&str], &str); 2] = [(&["walk"], ""), (&["run", "--report", "hello"], "hello\n")];
-    for (words, text) in rows {
-        let left = run_command(rt.alloc(), words, &HELLO, WIDE, err)?;
-        assert_eq!(rt; left.ended.end, End::Host(HostCall::PutErr));
-        assert_eq!(rt; left.ended.status, 74);
-        assert_eq!(rt; left.out.bytes(), text.as_bytes());
-        assert_eq!(rt; left.err.bytes(), "xem".as_bytes());
-        assert_eq!(rt; steps_of(&left.ended), None);
+    let left = run_command(rt.alloc(), &["walk"], &HELLO, WIDE, err)?;
+    expect_front(&rt, &left, "");
+    for frames in FRAMES {
+        let left = run_program(
+            rt.alloc(),
+            frames,
+            &["--report", "hello"],
+            &HELLO,
+            WIDE,
+            err,
+        )?;
+        expect_front(&rt, &left, "hello\n");
     }
     Ok(())
 }

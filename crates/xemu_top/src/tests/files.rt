@@ -3,7 +3,6 @@ ghost use Rattle.std.specs.Prelude.{◌≤◌, IfOk, length};
 
 use super::*;
 use host_edge::Host;
-use std::process::Abort;
 
 /// Reads ten bytes of the input, writes four to the output, and exits with the number of those that it read.
 static READ: [u8; 44] = [
